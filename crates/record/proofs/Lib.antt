@@ -1,2 +1,4 @@
+pub mod Assembled
 pub mod Little
+pub mod ReadBack
 pub mod Register

@@ -6,10 +6,11 @@ use mathlib.Core.Logic.{_⊎_, inl, inr, ⊎-elim}
 use Prim.Native.Nat.{ℕ, zero, suc, _+_, _*_, _/_, _%_, _^_, _-_, _<_}
 use native.Mathlib.Omega.{arith}
 use native.Mathlib.Numerals.{add-one}
-use lib.Bits.{bitXor, bitAnd, and-mask, xor-add-and, xor-shr, xor-mod, xor-shifted, xor-zero-r, xor-zero-l, xor-comm, xor-assoc, xor-self, shifted-half, shifted-even}
+use lib.Bits.{bitXor, bitAnd, xor-lt, and-mask, xor-add-and, xor-shr, xor-mod, xor-shifted, xor-zero-r, xor-zero-l, xor-comm, xor-assoc, shifted-half, shifted-even}
 use lib.Dec.{eqb}
+use Rattle.std.specs.shelf.Lists.{All}
 use Rattle.std.proofs.shelf.Bits.{shr-split}
-use Rattle.record.specs.Crc.{shift, shifts, feed}
+use Rattle.record.specs.Crc.{shift, shifts, feed, register, crc}
 
 -- what the low bit adds to the register
 turned : ℕ → ℕ
@@ -26,6 +27,11 @@ bit r = two (r % 2) (omega arith)
 shift-is : (r : ℕ) → shift r ≡ bitXor (r / 2) (turned (r % 2))
 unfolding shift turned
 shift-is r = ⊎-elim (λ e. rw e (sym (xor-zero-r (r / 2)))) (λ e. rw e refl) (bit r)
+
+turned-lt : (b : ℕ) → (b ≡ 0) ⊎ (b ≡ 1) → turned b < 2 ^ 32
+unfolding turned
+turned-lt b (inl e) = rw e (omega arith)
+turned-lt b (inr e) = rw e (omega arith)
 
 bits-apart : (a b : ℕ) → (a ≡ 0) ⊎ (a ≡ 1) → (b ≡ 0) ⊎ (b ≡ 1) → turned (bitXor a b) ≡ bitXor (turned a) (turned b)
 unfolding turned
@@ -93,3 +99,23 @@ pub complement : (r : ℕ) → r < 2 ^ 32 → bitXor r 0xFFFFFFFF ≡ 0xFFFFFFFF
 complement r h =
     let whole : bitAnd r 0xFFFFFFFF ≡ r % 2 ^ 32 = and-mask r 32 in
     omega (arith, xor-add-and r 0xFFFFFFFF)
+
+-- the register keeps to 32 bits
+shift-lt : (r : ℕ) → r < 2 ^ 32 → shift r < 2 ^ 32
+shift-lt r h =
+    rw (shift-is r) (xor-lt 32 (r / 2) (turned (r % 2)) (omega arith) (turned-lt (r % 2) (bit r)))
+
+shifts-lt : (k r : ℕ) → r < 2 ^ 32 → shifts k r < 2 ^ 32
+unfolding shifts
+shifts-lt zero r h = h
+shifts-lt (suc k) r h = shifts-lt k (shift r) (shift-lt r h)
+
+register-lt : (bs : List ℕ) (r : ℕ) → r < 2 ^ 32 → All (λ b. b < 256) bs → register r bs < 2 ^ 32
+unfolding register feed
+register-lt [] r h a = h
+register-lt (b ∷ bs) r h a = register-lt bs (feed r b) (shifts-lt 8 (bitXor r b) (xor-lt 32 r b h (omega (arith, a .0)))) (a .1)
+
+-- the checksum of bytes fits its four bytes
+pub crc-lt : (bs : List ℕ) → All (λ b. b < 256) bs → crc bs < 2 ^ 32
+unfolding crc
+crc-lt bs a = xor-lt 32 (register 0xFFFFFFFF bs) 0xFFFFFFFF (register-lt bs 0xFFFFFFFF (omega arith) a) (omega arith)

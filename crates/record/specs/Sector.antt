@@ -1,5 +1,6 @@
 -- A sector of 32 bytes, and the record that it holds.
 use mathlib.Core.Bool.{Bool, true, false, cond, _&&_}
+use mathlib.Core.Path.{_≡_}
 use mathlib.Core.List.{List, [], _∷_, _++_}
 use Prim.Native.Nat.{ℕ, zero, suc, _+_, _*_, _/_, _%_, _^_}
 use lib.Dec.{eqb, leb, ltb}
@@ -76,3 +77,11 @@ body tag r =
 -- the 32 bytes of a record
 unfoldable pub encoded : ℕ → Record → List ℕ
 encoded tag r = body tag r ++ bytes-of 4 (crc (body tag r))
+
+-- bytes read back as this record on every disk of this tag where its numbers are lawful, and elsewhere as foreign
+abbrev pub Reads-back : ℕ → Record → List ℕ → Type 0
+Reads-back tag r s = (f : Format) (i : ℕ) → content f i s ≡ cond (eqb tag (f .tag) && lawful f i r) (Holds r) Foreign
+
+-- bytes that are blank on every disk
+abbrev pub Always-blank : List ℕ → Type 0
+Always-blank s = (f : Format) (i : ℕ) → content f i s ≡ Blank

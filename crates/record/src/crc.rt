@@ -1,6 +1,6 @@
 // The CRC-32 of IEEE 802.3, by a table of 256 entries.
 ghost use mathlib.Core.Path.{_≡_};
-ghost use Rattle.record.specs.Crc.{crc, shifts};
+ghost use Rattle.record.specs.Crc.{crc, shifts, Check-values};
 
 // What eight steps of the register make of each byte.
 const TABLE: [u32; 256] = [
@@ -279,4 +279,12 @@ pub fn crc32(bytes: &[u8]) -> u32
         register = (register >> 8) ^ entry(low);
     }
     !register
+}
+
+// The published check value: the checksum of the text 123456789.
+pub fn check_value() -> u32
+    ensures value { λ r. ⌜ r ≡ 0xCBF43926 ⌝ }
+    ensures of_the_definition { λ _. ⌜ Check-values ⌝ }
+{
+    crc32(b"123456789")
 }

@@ -1,8 +1,8 @@
 // A record and the 32 bytes of its sector.
 ghost use mathlib.Core.Path.{_≡_};
 ghost use Prim.Native.Nat.{_+_, _≤_};
-ghost use lib.ListN.{length};
-ghost use Rattle.record.specs.Sector.{sound, lawful, little, bytes-at, parts, content};
+ghost use lib.ListN.{length, replicate};
+ghost use Rattle.record.specs.Sector.{sound, lawful, little, bytes-at, parts, content, encoded, Reads-back, Always-blank};
 use crate::crc::crc32;
 use crate::numbers::Rank;
 use crate::numbers::RankDebug;
@@ -128,4 +128,27 @@ pub fn classify(format: Format, sector: usize, bytes: &[u8; SECTOR_BYTES]) -> Co
     } else {
         Content::Foreign
     }
+}
+
+// The 32 bytes of a record.
+pub fn encode(tag: u8, record: Record) -> [u8; SECTOR_BYTES]
+    ensures bytes { λ r. ⌜ r ≡ encoded tag «record» ⌝ }
+    ensures reads_back { λ r. ⌜ Reads-back tag «record» r ⌝ }
+{
+    let mut sector = [0u8; SECTOR_BYTES];
+    sector[0] = tag;
+    sector[1] = record.series;
+    sector[4..12].copy_from_slice(&record.sequence.0.to_le_bytes());
+    sector[12..20].copy_from_slice(&record.end.0.to_le_bytes());
+    let checksum = crc32(&sector[0..28]);
+    sector[28..32].copy_from_slice(&checksum.to_le_bytes());
+    sector
+}
+
+// A cleared sector, which is blank: the checksum of 28 zero bytes is not 0.
+pub fn cleared() -> [u8; SECTOR_BYTES]
+    ensures bytes { λ r. ⌜ r ≡ replicate 32 0 ⌝ }
+    ensures blank { λ r. ⌜ Always-blank r ⌝ }
+{
+    [0; SECTOR_BYTES]
 }
