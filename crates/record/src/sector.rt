@@ -1,6 +1,8 @@
 // A record and the 32 bytes of its sector.
+ghost use mathlib.Core.Bool.{_&&_};
 ghost use mathlib.Core.Path.{_≡_};
 ghost use Prim.Native.Nat.{_+_, _≤_};
+ghost use lib.Dec.{eqb};
 ghost use lib.ListN.{length, replicate};
 ghost use Rattle.record.specs.Sector.{sound, lawful, little, bytes-at, parts, content, encoded, Reads-back, Always-blank};
 use crate::crc::crc32;
@@ -89,6 +91,13 @@ fn number_at(bytes: &[u8], at: usize) -> u64
     ])
 }
 
+// Whether the bytes that a record leaves free are zero: two single ones, and eight as one number.
+fn are_zero(first: u8, second: u8, others: u64) -> bool
+    ensures { λ r. ⌜ r ≡ (eqb first 0 && (eqb second 0 && eqb others 0)) ⌝ }
+{
+    first == 0 && second == 0 && others == 0
+}
+
 // The parts of a sector, as its bytes have them.
 fn take_apart(sector: &[u8]) -> Parts
     requires { ⌜ length (now sector) ≡ 32 ⌝ }
@@ -102,11 +111,9 @@ fn take_apart(sector: &[u8]) -> Parts
         sequence: Sequence(number_at(rest, 0)),
         end: Rank(number_at(rest, 8)),
     };
-    let spare = number_at(rest, 16);
-    let zeroed = *zero == 0 && *also_zero == 0 && spare == 0;
     Parts {
         tag: *tag,
-        zeroed,
+        zeroed: are_zero(*zero, *also_zero, number_at(rest, 16)),
         record,
     }
 }

@@ -139,6 +139,13 @@ fn foreign_and_blank() -> Result<(), Fail> {
         ..eleventh()
     };
     check_eq(classify(FORMAT, 1, &encode(1, ninth)), Content::Foreign)?;
+    let mut spare = WRITTEN;
+    spare[27] = 1;
+    spare[28] = 43;
+    spare[29] = 106;
+    spare[30] = 47;
+    spare[31] = 168;
+    check_eq(classify(FORMAT, 1, &spare), Content::Foreign)?;
     let mut torn = WRITTEN;
     torn[12] = 45;
     check_eq(classify(FORMAT, 1, &torn), Content::Blank)?;
