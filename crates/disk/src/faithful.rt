@@ -1,0 +1,68 @@
+// A disk that keeps each write when it is made.
+ghost use mathlib.Core.Path.{_≡_};
+ghost use Rattle.std.specs.Results.{Cases, isOk};
+ghost use lib.ListN.{length};
+ghost use Rattle.disk.specs.Devices.{faithful};
+ghost use Rattle.disk.specs.Meaning.{Meaning};
+ghost use Rattle.disk.specs.Memory.{right-size};
+use crate::disk::Disk;
+use crate::fault::DiskFault;
+use crate::fault::Operation;
+use crate::fault::admit;
+use crate::sectors::Sectors;
+use crate::size::BadSize;
+use crate::size::is_right_size;
+use record::SECTOR_BYTES;
+
+#[derive(Drop)]
+pub struct FaithfulDisk<'a> {
+    sectors: Sectors<'a>,
+    supply: u64,
+}
+
+impl<'a> FaithfulDisk<'a> {
+    // A disk over memory of 32 bytes a sector, with so many writes and flushes to succeed.
+    pub fn new(
+        memory: &'a mut [u8],
+        sectors: usize,
+        supply: u64,
+    ) -> Result<FaithfulDisk<'a>, BadSize<'a>>
+        ensures test { λ r. ⌜ isOk r ≡ right-size (length (now (memory .entry))) sectors ⌝ }
+        ensures cases { λ r. ⌜ Cases r (λ d. (now (d .sectors .memory) ≡ now (memory .entry)) × (d .supply ≡ supply)) (λ e. now (e .memory) ≡ now (memory .entry)) ⌝ }
+    {
+        if !is_right_size(memory.len(), sectors) {
+            return Err(BadSize { memory });
+        }
+        Ok(FaithfulDisk {
+            sectors: Sectors { memory },
+            supply,
+        })
+    }
+}
+
+pub impl Disk for FaithfulDisk<'_> as FaithfulDiskDisk {
+    ghost meaning = { faithful };
+
+    fn sectors(&self) -> usize {
+        self.sectors.count()
+    }
+
+    fn read(&self, sector: usize) -> Result<[u8; SECTOR_BYTES], DiskFault> {
+        self.sectors.read(sector)
+    }
+
+    fn write(&mut self, sector: usize, bytes: &[u8; SECTOR_BYTES]) -> Result<(), DiskFault> {
+        self.supply = admit(Operation::Write, sector, self.sectors.count(), self.supply)?;
+        self.sectors.store(sector, bytes);
+        Ok(())
+    }
+
+    fn flush(&mut self, sector: usize) -> Result<(), DiskFault> {
+        self.supply = admit(Operation::Flush, sector, self.sectors.count(), self.supply)?;
+        Ok(())
+    }
+
+    fn cut(&mut self, _tear: u64, supply: u64) {
+        self.supply = supply;
+    }
+}

@@ -1,0 +1,16 @@
+// A disk of sectors whose power may fail, and two such disks over memory handed in.
+mod disk;
+mod faithful;
+mod fault;
+mod sectors;
+mod size;
+
+pub use disk::Disk;
+pub use faithful::FaithfulDisk;
+pub use faithful::FaithfulDiskDisk;
+pub use fault::Cause;
+pub use fault::DiskFault;
+pub use fault::Operation;
+pub use size::BadSize;
+pub use size::LEAST_SECTORS;
+pub use size::MOST_SECTORS;
