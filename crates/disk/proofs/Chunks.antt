@@ -6,6 +6,7 @@ use native.Mathlib.Omega.{arith}
 use lib.ListN.{length, take, drop, getD, set}
 use borrow.Rule.Slice.PartMut.{putMid}
 use lib.Seq.{take-add}
+use Rattle.std.specs.shelf.Lists.{All}
 use Rattle.std.proofs.shelf.Lists.{length-append, length-take, length-drop, drop-drop, take-at, drop-at, drop-all, take-rest, append-nil}
 use Rattle.disk.specs.Memory.{chunks, sectors, spare, stored}
 
@@ -21,6 +22,16 @@ at-chunks (suc n) zero xs h = refl
 at-chunks (suc n) (suc i) xs h =
     at-chunks n i (drop 32 xs) (omega arith)
     ∙ ap (take 32) (drop-drop (32 * i) 32 xs ∙ ap (λ (k : ℕ). drop k xs) (omega arith))
+
+chunks-shaped : (n : ℕ) (xs : List ℕ) → 32 * n ≤ length xs → All (λ sector. length sector ≡ 32) (chunks n xs)
+unfolding chunks
+chunks-shaped zero xs h = tt
+chunks-shaped (suc n) xs h =
+    (simp length-take (omega arith), chunks-shaped n (drop 32 xs) (simp length-drop (omega arith)))
+
+pub all-shaped : (xs : List ℕ) → All (λ sector. length sector ≡ 32) (sectors xs)
+unfolding sectors
+all-shaped xs = chunks-shaped (length xs / 32) xs (omega arith)
 
 -- a store shortens or lengthens nothing
 pub length-stored :

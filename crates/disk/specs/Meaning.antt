@@ -8,6 +8,7 @@ use lib.Dec.{eqb, ltb}
 use lib.ListN.{length, getD, set}
 use Rattle.std.specs.declared.result.Result.{Result}
 use Rattle.std.specs.declared.result.Result.the-variants.{Ok, Err}
+use Rattle.std.specs.shelf.Lists.{All}
 use Rattle.record.specs.Sector.{sound}
 use Rattle.disk.specs.declared.fault.Cause.{Cause}
 use Rattle.disk.specs.declared.fault.Cause.the-variants.{NoSector, Dark}
@@ -30,6 +31,16 @@ at sectors k = getD sectors k []
 -- the number of sectors
 abbrev pub count : Meaning → ℕ
 count m = length (m .reading)
+
+-- a disk has sectors of 32 bytes, and keeps as many as are read
+pub record Shaped (m : Meaning) : Type 0 where
+  pub bytes : All (λ sector. length sector ≡ 32) (m .reading)
+  pub keeps : length (m .kept) ≡ length (m .reading)
+
+-- the number of a denial: 3 for a sector that is not there, 12 for darkness
+abbrev pub number-of : Cause → ℕ
+number-of NoSector = 3
+number-of Dark = 12
 
 -- a denied operation on sector i
 abbrev pub denied : Cause → Operation → ℕ → DiskFault

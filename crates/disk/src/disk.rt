@@ -2,7 +2,7 @@
 ghost use mathlib.Core.Path.{_≡_};
 ghost use Prim.Native.Nat.{ℕ};
 ghost use Rattle.std.specs.Results.{Cases};
-ghost use Rattle.disk.specs.Meaning.{Meaning, count, found, answer-of, Wrote, Flushed, Cut};
+ghost use Rattle.disk.specs.Meaning.{Meaning, Shaped, count, found, answer-of, Wrote, Flushed, Cut};
 ghost use Rattle.disk.specs.declared.fault.Operation.the-variants.{Write, Flush};
 use crate::fault::DiskFault;
 use record::SECTOR_BYTES;
@@ -13,7 +13,8 @@ pub trait Disk {
 
     // The number of sectors.
     fn sectors(&self) -> usize
-        ensures { λ r. ⌜ r ≡ count (meaning (now (self .entry))) ⌝ };
+        ensures count { λ r. ⌜ r ≡ count (meaning (now (self .entry))) ⌝ }
+        ensures shaped { λ _. ⌜ Shaped (meaning (now (self .entry))) ⌝ };
 
     // The bytes of a sector.
     fn read(&self, sector: usize) -> Result<[u8; SECTOR_BYTES], DiskFault>
@@ -31,5 +32,5 @@ pub trait Disk {
 
     // The current fails and comes back, with so many writes and flushes to succeed. The tear says how a write is torn.
     fn cut(&mut self, tear: u64, supply: u64)
-        ensures { λ _. ⌜ Cut (meaning (now (self .entry))) supply (meaning (now (self .exit))) ⌝ };
+        ensures meaning { λ _. ⌜ Cut (meaning (now (self .entry))) supply (meaning (now (self .exit))) ⌝ };
 }

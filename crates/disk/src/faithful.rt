@@ -1,10 +1,12 @@
 // A disk that keeps each write when it is made.
+ghost use mathlib.Core.Bool.{cond};
 ghost use mathlib.Core.Path.{_≡_};
 ghost use Rattle.std.specs.Results.{Cases, isOk};
 ghost use lib.ListN.{length};
 ghost use Rattle.disk.specs.Devices.{faithful};
-ghost use Rattle.disk.specs.Meaning.{Meaning};
-ghost use Rattle.disk.specs.Memory.{right-size};
+ghost use Rattle.disk.specs.Meaning.{answer-of, Wrote, Flushed, Cut};
+ghost use Rattle.disk.specs.Memory.{right-size, stored};
+ghost use Rattle.disk.specs.declared.fault.Operation.the-variants.{Write, Flush};
 use crate::disk::Disk;
 use crate::fault::DiskFault;
 use crate::fault::Operation;
@@ -51,18 +53,29 @@ pub impl Disk for FaithfulDisk<'_> as FaithfulDiskDisk {
         self.sectors.read(sector)
     }
 
-    fn write(&mut self, sector: usize, bytes: &[u8; SECTOR_BYTES]) -> Result<(), DiskFault> {
+    fn write(&mut self, sector: usize, bytes: &[u8; SECTOR_BYTES]) -> Result<(), DiskFault>
+        ensures answer { λ r. ⌜ r ≡ answer-of Write (faithful (now (self .entry))) sector ⌝ }
+        ensures effect { λ r. ⌜ Cases r (λ _. Wrote (faithful (now (self .entry))) sector (now (bytes .entry)) (faithful (now (self .exit)))) (λ _. faithful (now (self .exit)) ≡ faithful (now (self .entry))) ⌝ }
+        ensures memory { λ r. ⌜ now (now (self .exit) .sectors .memory) ≡ cond (isOk r) (stored (now (now (self .entry) .sectors .memory)) sector (now (bytes .entry))) (now (now (self .entry) .sectors .memory)) ⌝ }
+    {
         self.supply = admit(Operation::Write, sector, self.sectors.count(), self.supply)?;
         self.sectors.store(sector, bytes);
         Ok(())
     }
 
-    fn flush(&mut self, sector: usize) -> Result<(), DiskFault> {
+    fn flush(&mut self, sector: usize) -> Result<(), DiskFault>
+        ensures answer { λ r. ⌜ r ≡ answer-of Flush (faithful (now (self .entry))) sector ⌝ }
+        ensures effect { λ r. ⌜ Cases r (λ _. Flushed (faithful (now (self .entry))) (faithful (now (self .exit)))) (λ _. faithful (now (self .exit)) ≡ faithful (now (self .entry))) ⌝ }
+        ensures memory { λ _. ⌜ now (now (self .exit) .sectors .memory) ≡ now (now (self .entry) .sectors .memory) ⌝ }
+    {
         self.supply = admit(Operation::Flush, sector, self.sectors.count(), self.supply)?;
         Ok(())
     }
 
-    fn cut(&mut self, _tear: u64, supply: u64) {
+    fn cut(&mut self, _tear: u64, supply: u64)
+        ensures meaning { λ _. ⌜ Cut (faithful (now (self .entry))) supply (faithful (now (self .exit))) ⌝ }
+        ensures memory { λ _. ⌜ now (now (self .exit) .sectors .memory) ≡ now (now (self .entry) .sectors .memory) ⌝ }
+    {
         self.supply = supply;
     }
 }

@@ -1,7 +1,7 @@
 // Why a disk denied a call.
 ghost use mathlib.Core.Path.{_≡_};
 ghost use Prim.Native.Nat.{_-_};
-ghost use Rattle.disk.specs.Meaning.{answered};
+ghost use Rattle.disk.specs.Meaning.{answered, number-of};
 
 // What was asked of the disk.
 #[derive(Clone, Copy, PartialEq, Eq, Debug)]
@@ -24,6 +24,18 @@ pub struct DiskFault {
     pub cause: Cause,
     pub operation: Operation,
     pub sector: usize,
+}
+
+impl DiskFault {
+    // The number that the denial goes by.
+    pub fn number(&self) -> u8
+        ensures { λ r. ⌜ r ≡ number-of (now (self .entry) .cause) ⌝ }
+    {
+        match self.cause {
+            Cause::NoSector => 3,
+            Cause::Dark => 12,
+        }
+    }
 }
 
 // One write or flush out of the supply: what is left of it.

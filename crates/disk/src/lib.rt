@@ -4,6 +4,7 @@ mod faithful;
 mod fault;
 mod sectors;
 mod size;
+mod torn;
 
 pub use disk::Disk;
 pub use faithful::FaithfulDisk;
@@ -14,3 +15,6 @@ pub use fault::Operation;
 pub use size::BadSize;
 pub use size::LEAST_SECTORS;
 pub use size::MOST_SECTORS;
+pub use torn::Held;
+pub use torn::TornDisk;
+pub use torn::TornDiskDisk;

@@ -3,6 +3,7 @@ ghost use mathlib.Core.List.{[], _++_};
 ghost use mathlib.Core.Path.{_≡_};
 ghost use Prim.Native.Nat.{_/_, _<_, _≤_};
 ghost use lib.ListN.{length, drop, getD, set};
+ghost use Rattle.std.specs.shelf.Lists.{All};
 ghost use Rattle.disk.specs.Meaning.{found};
 ghost use Rattle.disk.specs.Memory.{sectors as cut-up, spare, stored};
 use crate::fault::Cause;
@@ -27,6 +28,7 @@ fn put(part: &mut [u8], bytes: &[u8; SECTOR_BYTES])
 impl Sectors<'_> {
     pub(crate) fn count(&self) -> usize
         ensures value { λ r. ⌜ r ≡ length (now (now (self .entry) .memory)) / 32 ⌝ }
+        ensures shaped { λ _. ⌜ All (λ sector. length sector ≡ 32) (cut-up (now (now (self .entry) .memory))) ⌝ }
         ensures listed { λ r. ⌜ r ≡ length (cut-up (now (now (self .entry) .memory))) ⌝ }
     {
         self.memory.len() / SECTOR_BYTES

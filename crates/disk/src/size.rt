@@ -1,8 +1,7 @@
 // The sizes that a disk may have.
-ghost use mathlib.Core.Bool.{_&&_};
 ghost use mathlib.Core.Path.{_≡_};
-ghost use Prim.Native.Nat.{_*_};
-ghost use lib.Dec.{eqb, leb};
+ghost use Rattle.disk.specs.Meaning.{number-of};
+ghost use Rattle.disk.specs.declared.fault.Cause.the-variants.{NoSector};
 ghost use Rattle.disk.specs.Memory.{right-size};
 use record::SECTOR_BYTES;
 
@@ -15,6 +14,15 @@ pub const MOST_SECTORS: usize = 2048;
 #[derive(Drop)]
 pub struct BadSize<'a> {
     pub memory: &'a mut [u8],
+}
+
+impl BadSize<'_> {
+    // The number that the denial goes by.
+    pub fn number(&self) -> u8
+        ensures { λ r. ⌜ r ≡ number-of NoSector ⌝ }
+    {
+        3
+    }
 }
 
 // Whether a memory is that of a disk of so many sectors.
