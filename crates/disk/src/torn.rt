@@ -138,6 +138,7 @@ pub impl Disk for TornDisk<'_> as TornDiskDisk {
     fn cut(&mut self, tear: u64, supply: u64)
         ensures meaning { λ _. ⌜ Cut (torn-disk (now (self .entry))) supply (torn-disk (now (self .exit))) ⌝ }
         ensures memory { λ _. ⌜ now (now (self .exit) .sectors .memory) ≡ left tear (now (self .entry) .held) (now (now (self .entry) .sectors .memory)) ⌝ }
+        ensures sectors { λ _. ⌜ cut-up (now (now (self .exit) .sectors .memory)) ≡ left-sectors tear (now (self .entry) .held) (cut-up (now (now (self .entry) .sectors .memory))) ⌝ }
         ensures holds { λ _. ⌜ now (self .exit) .held ≡ None ⌝ }
     {
         self.tear_held(tear);

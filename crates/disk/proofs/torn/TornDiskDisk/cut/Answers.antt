@@ -8,5 +8,6 @@ returns c =
     record {
       meaning = cut-by-tear (c .args .tear) (c .args .supply) _ (c .args .self .now .held) _ _ _ _ (c .tear-held .ensures .sectors) (c .tear-held .ensures .spare);
       memory = c .tear-held .ensures .memory;
+      sectors = c .tear-held .ensures .sectors;
       holds = refl;
     }
