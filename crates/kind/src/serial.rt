@@ -1,0 +1,61 @@
+// Serial identifiers: 1, 2, 3 and so on, whatever the clock says.
+ghost use mathlib.Core.Path.{_≡_};
+ghost use Rattle.kind.specs.Serial.{serial, serial-block, serial-floor, serial-identifier, serial-top};
+use crate::fault::SettingFault;
+use crate::meaning::Kind;
+use record::Identifier;
+use record::Rank;
+use record::Reading;
+
+// The serial kind, with the size of its blocks.
+#[derive(Clone, Copy, PartialEq, Eq, Debug)]
+pub struct SerialKind {
+    size: u64,
+}
+
+impl SerialKind {
+    // A kind that reserves blocks of this size, from 1 to 10,000.
+    pub fn new(size: u64) -> Result<SerialKind, SettingFault>
+        ensures { λ r. ⌜ r ≡ serial size ⌝ }
+    {
+        if size < 1 || size > 10_000 {
+            return Err(SettingFault::BlockSize);
+        }
+        Ok(SerialKind { size })
+    }
+}
+
+pub impl Kind for SerialKind as SerialMeaning {
+    ghost tag = { λ _. 1 };
+
+    ghost top = { λ _. serial-top };
+
+    ghost block = { λ k. serial-block (k .size) };
+
+    ghost floor = { λ _ _. serial-floor };
+
+    ghost identifier = { λ _ _ rank. serial-identifier rank };
+
+    fn tag(&self) -> u8 {
+        1
+    }
+
+    fn top(&self) -> Rank {
+        Rank(999_999_998)
+    }
+
+    fn block_size(&self) -> u64 {
+        self.size.clamp(1, 10_000)
+    }
+
+    fn floor(&self, _reading: Reading) -> Option<Rank> {
+        Some(Rank(0))
+    }
+
+    fn identifier(&self, series: u8, rank: Rank) -> Option<Identifier> {
+        if series > 7 || rank.0 > self.top().0 {
+            return None;
+        }
+        Some(Identifier(rank.0 + 1))
+    }
+}
