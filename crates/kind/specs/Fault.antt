@@ -1,5 +1,8 @@
--- The number of each fault.
+-- What is outside its range, and how it is denied.
+use mathlib.Core.Bool.{Bool, cond}
 use Prim.Native.Nat.{ℕ}
+use Rattle.std.specs.declared.result.Result.{Result}
+use Rattle.std.specs.declared.result.Result.the-variants.{Err}
 use Rattle.kind.specs.declared.fault.SettingFault.{SettingFault}
 use Rattle.kind.specs.declared.fault.SettingFault.the-variants.{BlockSize, Lease, Box, Correction, Milliseconds, Worker, Step, Identifier}
 
@@ -13,3 +16,7 @@ number-of Milliseconds = 4
 number-of Worker = 4
 number-of Step = 4
 number-of Identifier = 4
+
+-- the answer if the test holds, and the fault otherwise
+abbrev pub provided : {X : Type 0} → Bool → SettingFault → Result X SettingFault → Result X SettingFault
+provided test fault answer = cond test answer (Err fault)

@@ -1,20 +1,21 @@
 -- The serial kind.
-use mathlib.Core.Bool.{cond, _&&_}
+use mathlib.Core.Bool.{_&&_}
 use Prim.Native.Nat.{ℕ, _+_, max, min}
 use lib.Dec.{leb}
 use Rattle.std.specs.declared.option.Option.{Option}
 use Rattle.std.specs.declared.option.Option.the-variants.{Some}
 use Rattle.std.specs.declared.result.Result.{Result}
-use Rattle.std.specs.declared.result.Result.the-variants.{Ok, Err}
+use Rattle.std.specs.declared.result.Result.the-variants.{Ok}
 use Rattle.record.specs.declared.numbers.Rank.{Rank}
 use Rattle.record.specs.declared.numbers.Identifier.{Identifier}
 use Rattle.kind.specs.declared.fault.SettingFault.{SettingFault}
 use Rattle.kind.specs.declared.fault.SettingFault.the-variants.{BlockSize}
 use Rattle.kind.specs.declared.serial.SerialKind.{SerialKind}
+use Rattle.kind.specs.Fault.{provided}
 
 -- a block size from 1 to 10,000 makes a kind, and any other is denied
 abbrev pub serial : ℕ → Result SerialKind SettingFault
-serial size = cond (leb 1 size && leb size 10000) (Ok (record { size = size })) (Err BlockSize)
+serial size = provided (leb 1 size && leb size 10000) BlockSize (Ok (record { size = size }))
 
 abbrev pub serial-top : Rank
 serial-top = record { 0 = 999999998 }

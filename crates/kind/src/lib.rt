@@ -2,8 +2,13 @@
 mod fault;
 mod meaning;
 mod serial;
+mod snowflake;
+mod time;
 
 pub use fault::SettingFault;
 pub use meaning::Kind;
 pub use serial::SerialKind;
 pub use serial::SerialMeaning;
+pub use snowflake::Parts;
+pub use snowflake::pack;
+pub use snowflake::take_apart;

@@ -1,0 +1,1 @@
+// Time-sequenced identifiers: a rank is a millisecond and a step within it.
