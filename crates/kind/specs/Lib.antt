@@ -1,3 +1,4 @@
 pub mod Fault
 pub mod Serial
 pub mod Snowflake
+pub mod Time

@@ -12,3 +12,7 @@ pub use serial::SerialMeaning;
 pub use snowflake::Parts;
 pub use snowflake::pack;
 pub use snowflake::take_apart;
+pub use time::Correction;
+pub use time::Lease;
+pub use time::TimeKind;
+pub use time::TimeMeaning;

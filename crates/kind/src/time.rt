@@ -1,1 +1,124 @@
 // Time-sequenced identifiers: a rank is a millisecond and a step within it.
+ghost use mathlib.Core.Path.{_≡_};
+ghost use Rattle.kind.specs.Time.{correction-of, corrected-by, lease-of, seconds-of, time, time-block, time-floor, time-identifier, time-top};
+use crate::fault::SettingFault;
+use crate::meaning::Kind;
+use crate::snowflake::Parts;
+use crate::snowflake::pack;
+use record::Identifier;
+use record::Rank;
+use record::Reading;
+
+// How many steps a millisecond has.
+const STEPS: u64 = 4096;
+
+// The time for which a reservation lasts, in milliseconds.
+#[derive(Clone, Copy, PartialEq, Eq, Debug)]
+pub struct Lease(u64);
+
+impl Lease {
+    // A lease of 1 to 60,000 milliseconds.
+    pub fn new(milliseconds: u64) -> Result<Lease, SettingFault>
+        ensures { λ r. ⌜ r ≡ lease-of milliseconds ⌝ }
+    {
+        if milliseconds < 1 || milliseconds > 60_000 {
+            return Err(SettingFault::Lease);
+        }
+        Ok(Lease(milliseconds))
+    }
+}
+
+// By how many seconds the clock is to be set right: a byte that holds a two's complement number.
+#[derive(Clone, Copy, PartialEq, Eq, Debug)]
+pub struct Correction(pub u8);
+
+impl Correction {
+    // The correction that a byte of 0 to 255 holds.
+    pub fn new(byte: u64) -> Result<Correction, SettingFault>
+        ensures { λ r. ⌜ r ≡ correction-of byte ⌝ }
+    {
+        if byte > 255 {
+            return Err(SettingFault::Correction);
+        }
+        Ok(Correction(byte as u8))
+    }
+
+    // From -128 to 127.
+    pub fn seconds(self) -> i64
+        ensures { λ r. ⌜ r ≡ seconds-of self ⌝ }
+    {
+        i64::from(self.0.cast_signed())
+    }
+
+    // The reading set right. One that comes out below 0 or above 2^41 - 1 is unlawful.
+    fn apply(self, raw: Reading) -> Option<Reading>
+        ensures { λ r. ⌜ r ≡ corrected-by self raw ⌝ }
+    {
+        let milliseconds = raw.0.checked_add_signed(1000 * self.seconds())?;
+        if milliseconds >= 1 << 41 {
+            return None;
+        }
+        Some(Reading(milliseconds))
+    }
+}
+
+// The time kind of one box, with its lease and the correction of its clock.
+#[derive(Clone, Copy, PartialEq, Eq, Debug)]
+pub struct TimeKind {
+    lease: Lease,
+    number: u64,
+    correction: Correction,
+}
+
+impl TimeKind {
+    // The kind for the box of this number, from 0 to 127.
+    pub fn new(lease: Lease, number: u64, correction: Correction) -> Result<TimeKind, SettingFault>
+        ensures { λ r. ⌜ r ≡ time lease number correction ⌝ }
+    {
+        if number > 127 {
+            return Err(SettingFault::Box);
+        }
+        Ok(TimeKind { lease, number, correction })
+    }
+}
+
+pub impl Kind for TimeKind as TimeMeaning {
+    ghost tag = { λ _. 2 };
+
+    ghost top = { λ _. time-top };
+
+    ghost block = { λ k. time-block (k .lease) };
+
+    ghost floor = { λ k reading. time-floor (k .correction) reading };
+
+    ghost identifier = { λ k series rank. time-identifier (k .number) series rank };
+
+    fn tag(&self) -> u8 {
+        2
+    }
+
+    fn top(&self) -> Rank {
+        Rank((1 << 53) - 1)
+    }
+
+    fn block_size(&self) -> u64 {
+        STEPS * self.lease.0.clamp(1, 60_000)
+    }
+
+    fn floor(&self, reading: Reading) -> Option<Rank> {
+        let corrected = self.correction.apply(reading)?;
+        Some(Rank(STEPS * corrected.0))
+    }
+
+    fn identifier(&self, series: u8, rank: Rank) -> Option<Identifier> {
+        if series > 7 || rank.0 > self.top().0 {
+            return None;
+        }
+        let parts = Parts {
+            milliseconds: rank.0 / STEPS,
+            worker: 8 * self.number.min(127) + u64::from(series),
+            step: rank.0 % STEPS,
+        };
+        pack(parts).ok()
+    }
+}

@@ -1,0 +1,69 @@
+-- The time kind.
+use mathlib.Core.Bool.{cond, _&&_}
+use Prim.Native.Nat.{ℕ, _+_, _-_, _*_, _/_, _%_, _^_, max, min}
+use lib.Dec.{leb, ltb}
+use lib.IntN.{ℤ, pos, negsuc, negℤ, _+ℤ_, _*ℤ_}
+use Rattle.std.specs.Options.{mapped}
+use Rattle.std.specs.declared.option.Option.{Option}
+use Rattle.std.specs.declared.option.Option.the-variants.{Some, None}
+use Rattle.std.specs.declared.result.Result.{Result}
+use Rattle.std.specs.declared.result.Result.the-variants.{Ok}
+use Rattle.record.specs.declared.numbers.Rank.{Rank}
+use Rattle.record.specs.declared.numbers.Reading.{Reading}
+use Rattle.record.specs.declared.numbers.Identifier.{Identifier}
+use Rattle.kind.specs.declared.fault.SettingFault.{SettingFault}
+use Rattle.kind.specs.declared.fault.SettingFault.the-variants as fault
+use Rattle.kind.specs.declared.snowflake.Parts.{Parts}
+use Rattle.kind.specs.declared.time.Correction.{Correction}
+use Rattle.kind.specs.declared.time.Lease.{Lease}
+use Rattle.kind.specs.declared.time.TimeKind.{TimeKind}
+use Rattle.kind.specs.Fault.{provided}
+use Rattle.kind.specs.Snowflake.{packed}
+
+-- a lease is 1 to 60,000 milliseconds
+abbrev pub lease-of : ℕ → Result Lease SettingFault
+lease-of ms = provided (leb 1 ms && leb ms 60000) fault.Lease (Ok (record { 0 = ms }))
+
+-- a correction is a byte
+abbrev pub correction-of : ℕ → Result Correction SettingFault
+correction-of byte = provided (leb byte 255) fault.Correction (Ok (record { 0 = byte }))
+
+-- a box has a number from 0 to 127
+abbrev pub time : Lease → ℕ → Correction → Result TimeKind SettingFault
+time lease number correction =
+    provided (leb number 127) fault.Box (Ok (record { lease = lease; number = number; correction = correction }))
+
+-- the byte as a two's complement number: 0 to 127 as they are, 128 to 255 less 256
+abbrev pub seconds-of : Correction → ℤ
+seconds-of c = cond (ltb (c .0) 128) (pos (c .0)) (negℤ (pos (256 - c .0)))
+
+-- a lawful reading is from 0 to 2^41 - 1
+abbrev pub lawful : ℤ → Option Reading
+lawful (pos ms) = cond (ltb ms (2 ^ 41)) (Some (record { 0 = ms })) None
+lawful (negsuc _) = None
+
+-- each second of the correction is 1000 milliseconds
+abbrev pub corrected-by : Correction → Reading → Option Reading
+corrected-by c raw = lawful (pos (raw .0) +ℤ pos 1000 *ℤ seconds-of c)
+
+-- a rank is milliseconds times 4096 and a step, and a reading allows the first step of its millisecond
+abbrev pub time-floor : Correction → Reading → Option Rank
+time-floor c raw = mapped (λ reading. record { 0 = 4096 * reading .0 }) (corrected-by c raw)
+
+abbrev pub time-top : Rank
+time-top = record { 0 = 2 ^ 53 - 1 }
+
+-- a reservation lasts for the lease
+abbrev pub time-block : Lease → ℕ
+time-block lease = 4096 * max 1 (min (lease .0) 60000)
+
+-- each box has eight workers, one for each series
+abbrev pub worker : ℕ → ℕ → ℕ
+worker number series = 8 * min number 127 + series
+
+abbrev pub parts-of : ℕ → ℕ → Rank → Parts
+parts-of number series rank =
+    record { milliseconds = rank .0 / 4096; worker = worker number series; step = rank .0 % 4096 }
+
+abbrev pub time-identifier : ℕ → ℕ → Rank → Identifier
+time-identifier number series rank = packed (parts-of number series rank)
