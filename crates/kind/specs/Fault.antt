@@ -1,6 +1,6 @@
 -- What is outside its range, and how it is denied.
 use mathlib.Core.Bool.{Bool, cond}
-use Prim.Native.Nat.{ℕ}
+use Prim.Native.Nat.{ℕ, max, min}
 use Rattle.std.specs.declared.result.Result.{Result}
 use Rattle.std.specs.declared.result.Result.the-variants.{Err}
 use Rattle.kind.specs.declared.fault.SettingFault.{SettingFault}
@@ -20,3 +20,7 @@ number-of Identifier = 4
 -- the answer if the test holds, and the fault otherwise
 abbrev pub provided : {X : Type 0} → Bool → SettingFault → Result X SettingFault → Result X SettingFault
 provided test fault answer = cond test answer (Err fault)
+
+-- the number of low to high that lies nearest: a setting in its range is itself
+abbrev pub nearest : ℕ → ℕ → ℕ → ℕ
+nearest low high n = max low (min n high)

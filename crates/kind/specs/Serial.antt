@@ -1,6 +1,6 @@
 -- The serial kind.
 use mathlib.Core.Bool.{_&&_}
-use Prim.Native.Nat.{ℕ, _+_, max, min}
+use Prim.Native.Nat.{ℕ, _+_}
 use lib.Dec.{leb}
 use Rattle.std.specs.declared.option.Option.{Option}
 use Rattle.std.specs.declared.option.Option.the-variants.{Some}
@@ -14,14 +14,12 @@ use Rattle.kind.specs.declared.serial.SerialKind.{SerialKind}
 use Rattle.kind.specs.Fault.{provided}
 
 -- a block size from 1 to 10,000 makes a kind, and any other is denied
-abbrev pub serial : ℕ → Result SerialKind SettingFault
-serial size = provided (leb 1 size && leb size 10000) BlockSize (Ok (record { size = size }))
+abbrev pub serial-kind-of : ℕ → Result SerialKind SettingFault
+serial-kind-of size = provided (leb 1 size && leb size 10000) BlockSize (Ok (record { size = size }))
 
+-- the last label says 999,999,999
 abbrev pub serial-top : Rank
 serial-top = record { 0 = 999999998 }
-
-abbrev pub serial-block : ℕ → ℕ
-serial-block size = max 1 (min size 10000)
 
 -- every reading allows every rank
 abbrev pub serial-floor : Option Rank

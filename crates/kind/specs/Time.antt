@@ -1,6 +1,6 @@
 -- The time kind.
 use mathlib.Core.Bool.{cond, _&&_}
-use Prim.Native.Nat.{ℕ, _+_, _-_, _*_, _/_, _%_, _^_, max, min}
+use Prim.Native.Nat.{ℕ, _+_, _-_, _*_, _/_, _%_, _^_}
 use lib.Dec.{leb, ltb}
 use lib.IntN.{ℤ, pos, negsuc, negℤ, _+ℤ_, _*ℤ_}
 use Rattle.std.specs.Options.{mapped}
@@ -29,9 +29,9 @@ abbrev pub correction-of : ℕ → Result Correction SettingFault
 correction-of byte = provided (leb byte 255) fault.Correction (Ok (record { 0 = byte }))
 
 -- a box has a number from 0 to 127
-abbrev pub time : Lease → ℕ → Correction → Result TimeKind SettingFault
-time lease number correction =
-    provided (leb number 127) fault.Box (Ok (record { lease = lease; number = number; correction = correction }))
+abbrev pub time-kind-of : Lease → ℕ → Correction → Result TimeKind SettingFault
+time-kind-of lease number correction =
+    provided (leb number 127) fault.Box (Ok (record { lease = lease; «box_number» = number; correction = correction }))
 
 -- the byte as a two's complement number: 0 to 127 as they are, 128 to 255 less 256
 abbrev pub seconds-of : Correction → ℤ
@@ -53,17 +53,17 @@ time-floor c raw = mapped (λ reading. record { 0 = 4096 * reading .0 }) (correc
 abbrev pub time-top : Rank
 time-top = record { 0 = 2 ^ 53 - 1 }
 
--- a reservation lasts for the lease
-abbrev pub time-block : Lease → ℕ
-time-block lease = 4096 * max 1 (min (lease .0) 60000)
+-- a reservation takes the ranks of a lease
+abbrev pub time-block : ℕ → ℕ
+time-block lease = 4096 * lease
 
--- each box has eight workers, one for each series
-abbrev pub worker : ℕ → ℕ → ℕ
-worker number series = 8 * min number 127 + series
+-- a box has eight workers, one for each series
+abbrev pub worker-of : ℕ → ℕ → ℕ
+worker-of number series = 8 * number + series
 
 abbrev pub parts-of : ℕ → ℕ → Rank → Parts
 parts-of number series rank =
-    record { milliseconds = rank .0 / 4096; worker = worker number series; step = rank .0 % 4096 }
+    record { milliseconds = rank .0 / 4096; worker = worker-of number series; step = rank .0 % 4096 }
 
 abbrev pub time-identifier : ℕ → ℕ → Rank → Identifier
 time-identifier number series rank = packed (parts-of number series rank)

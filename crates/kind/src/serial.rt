@@ -1,22 +1,24 @@
 // Serial identifiers: 1, 2, 3 and so on, whatever the clock says.
 ghost use mathlib.Core.Path.{_≡_};
-ghost use Rattle.kind.specs.Serial.{serial, serial-block, serial-floor, serial-identifier, serial-top};
+ghost use Rattle.kind.specs.Fault.{nearest};
+ghost use Rattle.kind.specs.Serial.{serial-floor, serial-identifier, serial-kind-of, serial-top};
 use crate::fault::SettingFault;
 use crate::meaning::Kind;
 use record::Identifier;
 use record::Rank;
 use record::Reading;
 
-// The serial kind, with the size of its blocks.
+// The serial kind. The size of its blocks is tested when the kind is made, and brought into its range again where it is
+// used, so that the laws hold of every value of this type.
 #[derive(Clone, Copy, PartialEq, Eq, Debug)]
 pub struct SerialKind {
     size: u64,
 }
 
 impl SerialKind {
-    // A kind that reserves blocks of this size, from 1 to 10,000.
+    // The kind with blocks of 1 to 10,000 ranks; any other size is denied.
     pub fn new(size: u64) -> Result<SerialKind, SettingFault>
-        ensures { λ r. ⌜ r ≡ serial size ⌝ }
+        ensures { λ r. ⌜ r ≡ serial-kind-of size ⌝ }
     {
         if size < 1 || size > 10_000 {
             return Err(SettingFault::BlockSize);
@@ -30,7 +32,7 @@ pub impl Kind for SerialKind as SerialMeaning {
 
     ghost top = { λ _. serial-top };
 
-    ghost block = { λ k. serial-block (k .size) };
+    ghost block = { λ k. nearest 1 10000 (k .size) };
 
     ghost floor = { λ _ _. serial-floor };
 

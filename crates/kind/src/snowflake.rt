@@ -31,7 +31,7 @@ pub fn pack(parts: Parts) -> Result<Identifier, SettingFault>
     Ok(Identifier(parts.milliseconds << 22 | parts.worker << 12 | parts.step))
 }
 
-// The fields of an identifier. One of 64 bits is denied.
+// The fields of an identifier. One of 2^63 or more is denied.
 pub fn take_apart(identifier: Identifier) -> Result<Parts, SettingFault>
     ensures answers { λ r. ⌜ r ≡ taking-apart identifier ⌝ }
     ensures packed_again { λ r. ⌜ made r (λ parts. packing parts ≡ Ok identifier) ⌝ }

@@ -1,6 +1,7 @@
 // Time-sequenced identifiers: a rank is a millisecond and a step within it.
 ghost use mathlib.Core.Path.{_≡_};
-ghost use Rattle.kind.specs.Time.{correction-of, corrected-by, lease-of, seconds-of, time, time-block, time-floor, time-identifier, time-top};
+ghost use Rattle.kind.specs.Fault.{nearest};
+ghost use Rattle.kind.specs.Time.{correction-of, corrected-by, lease-of, seconds-of, time-block, time-floor, time-identifier, time-kind-of, time-top};
 use crate::fault::SettingFault;
 use crate::meaning::Kind;
 use crate::snowflake::Parts;
@@ -12,12 +13,12 @@ use record::Reading;
 // How many steps a millisecond has.
 const STEPS: u64 = 4096;
 
-// The time for which a reservation lasts, in milliseconds.
+// The time that the ranks of one reservation last, in milliseconds.
 #[derive(Clone, Copy, PartialEq, Eq, Debug)]
 pub struct Lease(u64);
 
 impl Lease {
-    // A lease of 1 to 60,000 milliseconds.
+    // A lease of 1 to 60,000 milliseconds; any other is denied.
     pub fn new(milliseconds: u64) -> Result<Lease, SettingFault>
         ensures { λ r. ⌜ r ≡ lease-of milliseconds ⌝ }
     {
@@ -33,7 +34,7 @@ impl Lease {
 pub struct Correction(pub u8);
 
 impl Correction {
-    // The correction that a byte of 0 to 255 holds.
+    // The correction in a byte of 0 to 255; any other number is denied.
     pub fn new(byte: u64) -> Result<Correction, SettingFault>
         ensures { λ r. ⌜ r ≡ correction-of byte ⌝ }
     {
@@ -43,14 +44,14 @@ impl Correction {
         Ok(Correction(byte as u8))
     }
 
-    // From -128 to 127.
+    // The number in the byte, from -128 to 127.
     pub fn seconds(self) -> i64
         ensures { λ r. ⌜ r ≡ seconds-of self ⌝ }
     {
         i64::from(self.0.cast_signed())
     }
 
-    // The reading set right. One that comes out below 0 or above 2^41 - 1 is unlawful.
+    // The reading set right; none where that is below 0 or above 2^41 - 1.
     fn apply(self, raw: Reading) -> Option<Reading>
         ensures { λ r. ⌜ r ≡ corrected-by self raw ⌝ }
     {
@@ -62,23 +63,28 @@ impl Correction {
     }
 }
 
-// The time kind of one box, with its lease and the correction of its clock.
+// The time kind of one box. A setting is tested when the kind is made, and brought into its range again where it is
+// used, so that the laws hold of every value of this type.
 #[derive(Clone, Copy, PartialEq, Eq, Debug)]
 pub struct TimeKind {
     lease: Lease,
-    number: u64,
+    box_number: u64,
     correction: Correction,
 }
 
 impl TimeKind {
-    // The kind for the box of this number, from 0 to 127.
-    pub fn new(lease: Lease, number: u64, correction: Correction) -> Result<TimeKind, SettingFault>
-        ensures { λ r. ⌜ r ≡ time lease number correction ⌝ }
+    // The kind of a box with a number of 0 to 127; any other is denied.
+    pub fn new(
+        lease: Lease,
+        box_number: u64,
+        correction: Correction,
+    ) -> Result<TimeKind, SettingFault>
+        ensures { λ r. ⌜ r ≡ time-kind-of lease «box_number» correction ⌝ }
     {
-        if number > 127 {
+        if box_number > 127 {
             return Err(SettingFault::Box);
         }
-        Ok(TimeKind { lease, number, correction })
+        Ok(TimeKind { lease, box_number, correction })
     }
 }
 
@@ -87,11 +93,11 @@ pub impl Kind for TimeKind as TimeMeaning {
 
     ghost top = { λ _. time-top };
 
-    ghost block = { λ k. time-block (k .lease) };
+    ghost block = { λ k. time-block (nearest 1 60000 (k .lease .0)) };
 
     ghost floor = { λ k reading. time-floor (k .correction) reading };
 
-    ghost identifier = { λ k series rank. time-identifier (k .number) series rank };
+    ghost identifier = { λ k series rank. time-identifier (nearest 0 127 (k .«box_number»)) series rank };
 
     fn tag(&self) -> u8 {
         2
@@ -116,7 +122,7 @@ pub impl Kind for TimeKind as TimeMeaning {
         }
         let parts = Parts {
             milliseconds: rank.0 / STEPS,
-            worker: 8 * self.number.min(127) + u64::from(series),
+            worker: 8 * self.box_number.clamp(0, 127) + u64::from(series),
             step: rank.0 % STEPS,
         };
         pack(parts).ok()
