@@ -13,11 +13,10 @@ use Rattle.record.specs.declared.numbers.Reading.{Reading}
 use Rattle.record.specs.declared.numbers.Identifier.{Identifier}
 use Rattle.kind.specs.declared.fault.SettingFault.{SettingFault}
 use Rattle.kind.specs.declared.fault.SettingFault.the-variants as fault
-use Rattle.kind.specs.declared.snowflake.Parts.{Parts}
 use Rattle.kind.specs.declared.time.Correction.{Correction}
 use Rattle.kind.specs.declared.time.Lease.{Lease}
 use Rattle.kind.specs.declared.time.TimeKind.{TimeKind}
-use Rattle.kind.specs.Fault.{provided}
+use Rattle.kind.specs.Fault.{nearest, provided}
 use Rattle.kind.specs.Snowflake.{packed}
 
 -- a lease is 1 to 60,000 milliseconds
@@ -46,24 +45,25 @@ lawful (negsuc _) = None
 abbrev pub corrected-by : Correction → Reading → Option Reading
 corrected-by c raw = lawful (pos (raw .0) +ℤ pos 1000 *ℤ seconds-of c)
 
--- a rank is milliseconds times 4096 and a step, and a reading allows the first step of its millisecond
-abbrev pub time-floor : Correction → Reading → Option Rank
-time-floor c raw = mapped (λ reading. record { 0 = 4096 * reading .0 }) (corrected-by c raw)
+abbrev pub time-tag : TimeKind → ℕ
+time-tag _ = 2
 
-abbrev pub time-top : Rank
-time-top = record { 0 = 2 ^ 53 - 1 }
+-- a rank is milliseconds times 4096 and a step, of 41 and 12 bits
+abbrev pub time-top : TimeKind → Rank
+time-top _ = record { 0 = 2 ^ 53 - 1 }
 
 -- a reservation takes the ranks of a lease
-abbrev pub time-block : ℕ → ℕ
-time-block lease = 4096 * lease
+abbrev pub time-block : TimeKind → ℕ
+time-block kind = 4096 * nearest 1 60000 (kind .lease .0)
+
+-- a lawful reading allows the first step of its millisecond
+abbrev pub time-floor : TimeKind → Reading → Option Rank
+time-floor kind raw = mapped (λ reading. record { 0 = 4096 * reading .0 }) (corrected-by (kind .correction) raw)
 
 -- a box has eight workers, one for each series
-abbrev pub worker-of : ℕ → ℕ → ℕ
-worker-of number series = 8 * number + series
+abbrev pub worker-of : TimeKind → ℕ → ℕ
+worker-of kind series = 8 * nearest 0 127 (kind .«box_number») + series
 
-abbrev pub parts-of : ℕ → ℕ → Rank → Parts
-parts-of number series rank =
-    record { milliseconds = rank .0 / 4096; worker = worker-of number series; step = rank .0 % 4096 }
-
-abbrev pub time-identifier : ℕ → ℕ → Rank → Identifier
-time-identifier number series rank = packed (parts-of number series rank)
+abbrev pub time-identifier : TimeKind → ℕ → Rank → Identifier
+time-identifier kind series rank =
+    packed (record { milliseconds = rank .0 / 4096; worker = worker-of kind series; step = rank .0 % 4096 })

@@ -1,7 +1,6 @@
 // Serial identifiers: 1, 2, 3 and so on, whatever the clock says.
 ghost use mathlib.Core.Path.{_≡_};
-ghost use Rattle.kind.specs.Fault.{nearest};
-ghost use Rattle.kind.specs.Serial.{serial-floor, serial-identifier, serial-kind-of, serial-top};
+ghost use Rattle.kind.specs.Serial.{serial-block, serial-floor, serial-identifier, serial-kind-of, serial-tag, serial-top};
 use crate::fault::SettingFault;
 use crate::meaning::Kind;
 use record::Identifier;
@@ -28,15 +27,15 @@ impl SerialKind {
 }
 
 pub impl Kind for SerialKind as SerialMeaning {
-    ghost tag = { λ _. 1 };
+    ghost tag = { serial-tag };
 
-    ghost top = { λ _. serial-top };
+    ghost top = { serial-top };
 
-    ghost block = { λ k. nearest 1 10000 (k .size) };
+    ghost block = { serial-block };
 
-    ghost floor = { λ _ _. serial-floor };
+    ghost floor = { serial-floor };
 
-    ghost identifier = { λ _ _ rank. serial-identifier rank };
+    ghost identifier = { serial-identifier };
 
     fn tag(&self) -> u8 {
         1

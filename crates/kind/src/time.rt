@@ -1,7 +1,6 @@
 // Time-sequenced identifiers: a rank is a millisecond and a step within it.
 ghost use mathlib.Core.Path.{_≡_};
-ghost use Rattle.kind.specs.Fault.{nearest};
-ghost use Rattle.kind.specs.Time.{correction-of, corrected-by, lease-of, seconds-of, time-block, time-floor, time-identifier, time-kind-of, time-top};
+ghost use Rattle.kind.specs.Time.{correction-of, corrected-by, lease-of, seconds-of, time-block, time-floor, time-identifier, time-kind-of, time-tag, time-top};
 use crate::fault::SettingFault;
 use crate::meaning::Kind;
 use crate::snowflake::Parts;
@@ -89,15 +88,15 @@ impl TimeKind {
 }
 
 pub impl Kind for TimeKind as TimeMeaning {
-    ghost tag = { λ _. 2 };
+    ghost tag = { time-tag };
 
-    ghost top = { λ _. time-top };
+    ghost top = { time-top };
 
-    ghost block = { λ k. time-block (nearest 1 60000 (k .lease .0)) };
+    ghost block = { time-block };
 
-    ghost floor = { λ k reading. time-floor (k .correction) reading };
+    ghost floor = { time-floor };
 
-    ghost identifier = { λ k series rank. time-identifier (nearest 0 127 (k .«box_number»)) series rank };
+    ghost identifier = { time-identifier };
 
     fn tag(&self) -> u8 {
         2
