@@ -9,7 +9,7 @@ use record::Reading;
 
 // The serial kind. The size of its blocks is tested when the kind is made, and brought into its range again where it is
 // used, so that the laws hold of every value of this type.
-#[derive(Clone, Copy, PartialEq, Eq, Debug)]
+#[derive(Clone, Copy)]
 pub struct SerialKind {
     size: u64,
 }

@@ -13,7 +13,7 @@ use record::Reading;
 const STEPS: u64 = 4096;
 
 // The time that the ranks of one reservation last, in milliseconds.
-#[derive(Clone, Copy, PartialEq, Eq, Debug)]
+#[derive(Clone, Copy)]
 pub struct Lease(u64);
 
 impl Lease {
@@ -29,7 +29,7 @@ impl Lease {
 }
 
 // By how many seconds the clock is to be set right: a byte that holds a two's complement number.
-#[derive(Clone, Copy, PartialEq, Eq, Debug)]
+#[derive(Clone, Copy)]
 pub struct Correction(pub u8);
 
 impl Correction {
@@ -64,7 +64,7 @@ impl Correction {
 
 // The time kind of one box. A setting is tested when the kind is made, and brought into its range again where it is
 // used, so that the laws hold of every value of this type.
-#[derive(Clone, Copy, PartialEq, Eq, Debug)]
+#[derive(Clone, Copy)]
 pub struct TimeKind {
     lease: Lease,
     box_number: u64,
