@@ -7,6 +7,9 @@ use record::Identifier;
 use record::Rank;
 use record::Reading;
 
+// The largest block.
+const LARGEST: u64 = 10_000;
+
 // The serial kind. The size of its blocks is tested when the kind is made, and brought into its range again where it is
 // used, so that the laws hold of every value of this type.
 #[derive(Clone, Copy)]
@@ -19,7 +22,7 @@ impl SerialKind {
     pub fn new(size: u64) -> Result<SerialKind, SettingFault>
         ensures { λ r. ⌜ r ≡ serial-kind-of size ⌝ }
     {
-        if size < 1 || size > 10_000 {
+        if size < 1 || size > LARGEST {
             return Err(SettingFault::BlockSize);
         }
         Ok(SerialKind { size })
@@ -46,7 +49,7 @@ pub impl Kind for SerialKind as SerialMeaning {
     }
 
     fn block_size(&self) -> u64 {
-        self.size.clamp(1, 10_000)
+        self.size.clamp(1, LARGEST)
     }
 
     fn floor(&self, _reading: Reading) -> Option<Rank> {

@@ -12,6 +12,12 @@ use record::Reading;
 // How many steps a millisecond has.
 const STEPS: u64 = 4096;
 
+// The longest lease, in milliseconds.
+const LONGEST: u64 = 60_000;
+
+// The highest number of a box.
+const LAST_BOX: u64 = 127;
+
 // The time that the ranks of one reservation last, in milliseconds.
 #[derive(Clone, Copy)]
 pub struct Lease(u64);
@@ -21,7 +27,7 @@ impl Lease {
     pub fn new(milliseconds: u64) -> Result<Lease, SettingFault>
         ensures { λ r. ⌜ r ≡ lease-of milliseconds ⌝ }
     {
-        if milliseconds < 1 || milliseconds > 60_000 {
+        if milliseconds < 1 || milliseconds > LONGEST {
             return Err(SettingFault::Lease);
         }
         Ok(Lease(milliseconds))
@@ -80,10 +86,14 @@ impl TimeKind {
     ) -> Result<TimeKind, SettingFault>
         ensures { λ r. ⌜ r ≡ time-kind-of lease «box_number» correction ⌝ }
     {
-        if box_number > 127 {
+        if box_number > LAST_BOX {
             return Err(SettingFault::Box);
         }
-        Ok(TimeKind { lease, box_number, correction })
+        Ok(TimeKind {
+            lease,
+            box_number,
+            correction,
+        })
     }
 }
 
@@ -107,7 +117,7 @@ pub impl Kind for TimeKind as TimeMeaning {
     }
 
     fn block_size(&self) -> u64 {
-        STEPS * self.lease.0.clamp(1, 60_000)
+        STEPS * self.lease.0.clamp(1, LONGEST)
     }
 
     fn floor(&self, reading: Reading) -> Option<Rank> {
@@ -121,7 +131,7 @@ pub impl Kind for TimeKind as TimeMeaning {
         }
         let parts = Parts {
             milliseconds: rank.0 / STEPS,
-            worker: 8 * self.box_number.clamp(0, 127) + u64::from(series),
+            worker: 8 * self.box_number.min(LAST_BOX) + u64::from(series),
             step: rank.0 % STEPS,
         };
         pack(parts).ok()

@@ -14,5 +14,5 @@ returns c =
     let sum = joined (p .milliseconds) (p .worker) (p .step) (omega arith) (omega arith) (omega arith) in
     record {
       answers = ap (λ (x : ℕ). Ok (record { 0 = x })) sum ∙ sym (packing-fits p (omega arith) (omega arith) (omega arith));
-      apart-again = ap (λ (x : ℕ). taking-apart (record { 0 = x })) sum ∙ packed-apart p (omega arith) (omega arith) (omega arith)
+      apart-again = ap (λ (x : ℕ). taking-apart (record { 0 = x })) sum ∙ packed-apart p (omega arith) (omega arith) (omega arith);
     }

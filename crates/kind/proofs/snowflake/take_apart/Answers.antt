@@ -13,5 +13,5 @@ returns c =
     let parts = masked (c .args .identifier) in
     record {
       answers = ap Ok parts ∙ sym (taking-fits (c .args .identifier) (omega arith));
-      packed-again = ap packing parts ∙ apart-packed (c .args .identifier) (omega arith)
+      packed-again = ap packing parts ∙ apart-packed (c .args .identifier) (omega arith);
     }
