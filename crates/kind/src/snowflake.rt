@@ -28,7 +28,7 @@ pub fn pack(parts: Parts) -> Result<Identifier, SettingFault>
     if parts.step >= 1 << 12 {
         return Err(SettingFault::Step);
     }
-    Ok(Identifier(parts.milliseconds << 22 | parts.worker << 12 | parts.step))
+    Ok(Identifier((parts.milliseconds << 22) + (parts.worker << 12) + parts.step))
 }
 
 // The fields of an identifier. One of 2^63 or more is denied.
@@ -41,7 +41,7 @@ pub fn take_apart(identifier: Identifier) -> Result<Parts, SettingFault>
     }
     Ok(Parts {
         milliseconds: identifier.0 >> 22,
-        worker: identifier.0 >> 12 & 0x3ff,
-        step: identifier.0 & 0xfff,
+        worker: (identifier.0 >> 12) % (1 << 10),
+        step: identifier.0 % (1 << 12),
     })
 }
