@@ -18,6 +18,7 @@ use Rattle.kind.specs.Fault.{nearest, provided}
 abbrev pub serial-kind-of : ℕ → Result SerialKind SettingFault
 serial-kind-of size = provided (leb 1 size && leb size 10000) BlockSize (Ok (record { size = size }))
 
+-- a record of this kind begins with 1
 abbrev pub serial-tag : SerialKind → ℕ
 serial-tag _ = 1
 

@@ -19,6 +19,7 @@ packing p =
     provided (ltb (p .milliseconds) (2 ^ 41)) Milliseconds
     (provided (ltb (p .worker) (2 ^ 10)) Worker (provided (ltb (p .step) (2 ^ 12)) Step (Ok (packed p))))
 
+-- what stands in the bits of each field
 abbrev pub fields : Id → Parts
 fields i = record { milliseconds = i .0 / 2 ^ 22; worker = i .0 / 2 ^ 12 % 2 ^ 10; step = i .0 % 2 ^ 12 }
 

@@ -45,6 +45,7 @@ lawful (negsuc _) = None
 abbrev pub corrected-by : Correction → Reading → Option Reading
 corrected-by c raw = lawful (pos (raw .0) +ℤ pos 1000 *ℤ seconds-of c)
 
+-- a record of this kind begins with 2
 abbrev pub time-tag : TimeKind → ℕ
 time-tag _ = 2
 
@@ -64,6 +65,7 @@ time-floor kind raw = mapped (λ reading. record { 0 = 4096 * reading .0 }) (cor
 abbrev pub worker-of : TimeKind → ℕ → ℕ
 worker-of kind series = 8 * nearest 0 127 (kind .«box_number») + series
 
+-- the rank's millisecond and step, with the worker between them
 abbrev pub time-identifier : TimeKind → ℕ → Rank → Identifier
 time-identifier kind series rank =
     packed (record { milliseconds = rank .0 / 4096; worker = worker-of kind series; step = rank .0 % 4096 })
