@@ -1,0 +1,4 @@
+pub mod Fault
+pub mod Serial
+pub mod Snowflake
+pub mod Time
