@@ -1,5 +1,6 @@
 -- A flat memory and its sectors: how many there are, what each holds, and what a store changes.
 use mathlib.Core.Path.{_≡_, refl, sym, ap, _∙_}
+use mathlib.Core.Bool.{true}
 use mathlib.Core.List.{List, [], _∷_, _++_, append-assoc}
 use Prim.Native.Nat.{ℕ, zero, suc, _+_, _*_, _/_, _-_, _<_, _≤_}
 use native.Mathlib.Omega.{arith}
@@ -8,7 +9,8 @@ use borrow.Rule.Slice.PartMut.{putMid}
 use lib.Seq.{take-add}
 use Rattle.std.specs.shelf.Lists.{All}
 use Rattle.std.proofs.shelf.Lists.{length-append, length-take, length-drop, drop-drop, take-at, drop-at, drop-all, take-rest, append-nil}
-use Rattle.disk.specs.Memory.{chunks, sectors, spare, stored}
+use Rattle.std.proofs.shelf.Ways.{tells}
+use Rattle.disk.specs.Memory.{right-size, chunks, sectors, spare, stored}
 
 pub length-chunks : (n : ℕ) (xs : List ℕ) → length (chunks n xs) ≡ n
 unfolding chunks
@@ -122,3 +124,7 @@ put-is xs bytes part i h e =
     let rest : drop 32 (take (length xs - 32 * i) (drop (32 * i) xs)) ≡ drop (32 * i + 32) xs =
     ap (drop 32) (take-rest xs (32 * i)) ∙ drop-drop 32 (32 * i) xs in
     rw (e, none, rest, append-nil (bytes ++ drop (32 * i + 32) xs)) refl
+
+-- a memory of the right size has so many sectors
+pub right-count : (xs : List ℕ) (n : ℕ) → right-size (length xs) n ≡ true → length (sectors xs) ≡ n
+right-count xs n e = length-sectors xs ∙ (let fits : length xs ≡ 32 * n = grind (arith, tells) in omega arith)

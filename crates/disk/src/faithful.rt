@@ -1,11 +1,12 @@
 // A disk that keeps each write when it is made.
 ghost use mathlib.Core.Bool.{cond};
 ghost use mathlib.Core.Path.{_≡_};
+ghost use Rattle.std.specs.Vec.{made};
 ghost use Rattle.std.specs.Results.{Cases, isOk};
 ghost use lib.ListN.{length};
 ghost use Rattle.disk.specs.Devices.{faithful};
 ghost use Rattle.disk.specs.Meaning.{answer-of, Wrote, Flushed, Cut};
-ghost use Rattle.disk.specs.Memory.{right-size, stored};
+ghost use Rattle.disk.specs.Memory.{right-size, sectors as cut-up, stored};
 ghost use Rattle.disk.specs.declared.fault.Operation.the-variants.{Write, Flush};
 use crate::disk::Disk;
 use crate::fault::DiskFault;
@@ -13,7 +14,6 @@ use crate::fault::Operation;
 use crate::fault::admit;
 use crate::sectors::Sectors;
 use crate::size::BadSize;
-use crate::size::is_right_size;
 use record::SECTOR_BYTES;
 
 #[derive(Drop)]
@@ -30,15 +30,11 @@ impl<'a> FaithfulDisk<'a> {
         supply: u64,
     ) -> Result<FaithfulDisk<'a>, BadSize<'a>>
         ensures test { λ r. ⌜ isOk r ≡ right-size (length (now (memory .entry))) sectors ⌝ }
+        ensures count { λ r. ⌜ made r (λ d. length (cut-up (now (d .sectors .memory))) ≡ sectors) ⌝ }
         ensures cases { λ r. ⌜ Cases r (λ d. (now (d .sectors .memory) ≡ now (memory .entry)) × (d .supply ≡ supply)) (λ e. now (e .memory) ≡ now (memory .entry)) ⌝ }
     {
-        if !is_right_size(memory.len(), sectors) {
-            return Err(BadSize { memory });
-        }
-        Ok(FaithfulDisk {
-            sectors: Sectors { memory },
-            supply,
-        })
+        let sectors = Sectors::over(memory, sectors)?;
+        Ok(FaithfulDisk { sectors, supply })
     }
 }
 

@@ -3,12 +3,16 @@ ghost use mathlib.Core.List.{[], _++_};
 ghost use mathlib.Core.Path.{_≡_};
 ghost use Prim.Native.Nat.{_/_, _<_, _≤_};
 ghost use lib.ListN.{length, drop, getD, set};
+ghost use Rattle.std.specs.Results.{Cases, isOk};
+ghost use Rattle.std.specs.Vec.{made};
 ghost use Rattle.std.specs.shelf.Lists.{All};
 ghost use Rattle.disk.specs.Meaning.{found};
-ghost use Rattle.disk.specs.Memory.{sectors as cut-up, spare, stored};
+ghost use Rattle.disk.specs.Memory.{right-size, sectors as cut-up, spare, stored};
 use crate::fault::Cause;
 use crate::fault::DiskFault;
 use crate::fault::Operation;
+use crate::size::BadSize;
+use crate::size::is_right_size;
 use record::SECTOR_BYTES;
 
 // The memory itself: sector i is the 32 bytes from 32 × i on.
@@ -25,7 +29,20 @@ fn put(part: &mut [u8], bytes: &[u8; SECTOR_BYTES])
     part[0..SECTOR_BYTES].copy_from_slice(bytes);
 }
 
-impl Sectors<'_> {
+impl<'a> Sectors<'a> {
+    // Memory of 32 bytes a sector; any other is handed back.
+    pub(crate) fn over(memory: &'a mut [u8], sectors: usize) -> Result<Sectors<'a>, BadSize<'a>>
+        ensures test { λ r. ⌜ isOk r ≡ right-size (length (now (memory .entry))) sectors ⌝ }
+        ensures count { λ r. ⌜ made r (λ s. length (cut-up (now (s .memory))) ≡ sectors) ⌝ }
+        ensures cases { λ r. ⌜ Cases r (λ s. now (s .memory) ≡ now (memory .entry)) (λ e. now (e .memory) ≡ now (memory .entry)) ⌝ }
+    {
+        if is_right_size(memory.len(), sectors) {
+            Ok(Sectors { memory })
+        } else {
+            Err(BadSize { memory })
+        }
+    }
+
     pub(crate) fn count(&self) -> usize
         ensures value { λ r. ⌜ r ≡ length (now (now (self .entry) .memory)) / 32 ⌝ }
         ensures shaped { λ _. ⌜ All (λ sector. length sector ≡ 32) (cut-up (now (now (self .entry) .memory))) ⌝ }

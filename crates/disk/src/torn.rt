@@ -3,6 +3,7 @@ ghost use mathlib.Core.Bool.{cond};
 ghost use mathlib.Core.Path.{_≡_};
 ghost use Prim.Native.Nat.{_≤_};
 ghost use lib.ListN.{length};
+ghost use Rattle.std.specs.Vec.{made};
 ghost use Rattle.std.specs.Results.{Cases, isOk};
 ghost use Rattle.std.specs.shelf.Text.{sameBytes};
 ghost use Rattle.disk.specs.Devices.{torn-disk, mixture, torn as left-of, left, left-sectors, holding};
@@ -16,7 +17,6 @@ use crate::fault::Operation;
 use crate::fault::admit;
 use crate::sectors::Sectors;
 use crate::size::BadSize;
-use crate::size::is_right_size;
 use record::SECTOR_BYTES;
 use record::is_sound;
 
@@ -71,13 +71,12 @@ impl<'a> TornDisk<'a> {
         supply: u64,
     ) -> Result<TornDisk<'a>, BadSize<'a>>
         ensures test { λ r. ⌜ isOk r ≡ right-size (length (now (memory .entry))) sectors ⌝ }
+        ensures count { λ r. ⌜ made r (λ d. length (cut-up (now (d .sectors .memory))) ≡ sectors) ⌝ }
         ensures cases { λ r. ⌜ Cases r (λ d. (now (d .sectors .memory) ≡ now (memory .entry)) × (d .supply ≡ supply) × (d .held ≡ None)) (λ e. now (e .memory) ≡ now (memory .entry)) ⌝ }
     {
-        if !is_right_size(memory.len(), sectors) {
-            return Err(BadSize { memory });
-        }
+        let sectors = Sectors::over(memory, sectors)?;
         Ok(TornDisk {
-            sectors: Sectors { memory },
+            sectors,
             supply,
             held: None,
         })
