@@ -1,0 +1,9 @@
+// The ring log: records of reservations, in the sectors that their numbers name.
+mod fault;
+mod known;
+
+pub use fault::Interrupted;
+pub use fault::RingFault;
+pub use fault::Work;
+pub use known::Known;
+pub use known::Live;
