@@ -80,6 +80,10 @@ unfolding slot
 placed f reading k r e =
     placed-from f k r (content-lawful f k (at reading k) r (some-record (content f k (at reading k)) r e))
 
+pub slot-holds : (f : Format) (reading : List (List ℕ)) (k : ℕ) (r : Record) → content f k (at reading k) ≡ Holds r → slot f reading k ≡ Some r
+unfolding slot
+slot-holds f reading k r e = ap record-in e
+
 -- a record among the first n sectors
 pub record Among (f : Format) (reading : List (List ℕ)) (n : ℕ) (r : Record) : Type 0 where
   pub at-sector : ℕ

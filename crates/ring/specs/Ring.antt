@@ -1,22 +1,24 @@
 -- The ring by what its sectors read: the top record, the live records, and what a reservation writes.
 use mathlib.Core.Path.{_≡_}
 use mathlib.Core.Bool.{Bool, true, false, cond, not, _&&_}
-use mathlib.Core.List.{List, [], _∷_}
+use mathlib.Core.List.{List, [], _∷_, map}
 use Prim.Native.Nat.{ℕ, zero, suc, _+_, _%_, _^_, _<_, _≤_, max}
-use lib.Dec.{eqb, ltb}
+use lib.Dec.{eqb, leb, ltb}
 use lib.ListN.{length, getD, set}
 use Rattle.std.specs.declared.option.Option.{Option}
 use Rattle.std.specs.declared.option.Option.the-variants.{Some, None}
+use Rattle.std.specs.Iters.{counting}
 use Rattle.record.specs.Sector.{content, encoded}
 use Rattle.record.specs.declared.sector.Content.{Content}
 use Rattle.record.specs.declared.sector.Content.the-variants.{Blank, Foreign, Record as Holds}
 use Rattle.record.specs.declared.sector.Format.{Format}
 use Rattle.record.specs.declared.sector.Record.{Record}
-use Rattle.disk.specs.Meaning.{at}
+use Rattle.disk.specs.Meaning.{Meaning, at}
 use Rattle.ring.specs.declared.fault.Work.{Work}
 use Rattle.ring.specs.declared.fault.Work.the-variants.{Carry, Reservation}
 use Rattle.ring.specs.declared.known.Known.{Known}
 use Rattle.ring.specs.declared.known.Live.{Live}
+use Rattle.ring.specs.declared.ring.Ring.{Ring}
 
 -- the record of a sector, where it holds one
 abbrev pub record-in : Content → Option Record
@@ -135,3 +137,41 @@ unfoldable pub plan : Format → ℕ → ℕ → ℕ → List (List ℕ) → Lis
 plan f zero s end reading = reserving f reading s end ∷ []
 plan f (suc n) s end reading =
     first-then f reading s end (λ r. plan f n s end (with-record f reading r)) (carried f reading s)
+
+-- what there is to know of the sectors
+abbrev pub known : Format → List (List ℕ) → Known
+known f reading = record { top = record { 0 = top f reading }; lives = map (live f reading) (counting 0 8) }
+
+-- the live record of a series among eight
+abbrev pub live-among : List Live → ℕ → Live
+live-among lives s = getD lives s none
+
+-- what is to be carried, by what is known: the live record of another series that is no newer than where the search began
+abbrev pub carry-of : Known → ℕ → ℕ → Content → Option Record
+carry-of k s start Blank = None
+carry-of k s start Foreign = None
+carry-of k s start (Holds r) =
+    cond (not (eqb (r .series) s) && (ltb (r .series) 8 && (eqb (r .sequence .0) (live-among (k .lives) (r .series) .number .0) && leb (r .sequence .0) start)))
+    (Some r)
+    None
+
+-- how many series other than s have a live record no newer than where the search began; the first of the list is series i
+unfoldable pub left : ℕ → ℕ → ℕ → List Live → ℕ
+left start s i [] = 0
+left start s i (l ∷ lives) = cond (not (eqb i s) && leb (l .number .0) start) 1 0 + left start s (suc i) lives
+
+-- no sector is foreign
+abbrev pub is-foreign : Content → Bool
+is-foreign Blank = false
+is-foreign Foreign = true
+is-foreign (Holds r) = false
+
+abbrev pub Native : Format → List (List ℕ) → Type 0
+Native f reading = (k : ℕ) → k < length reading → is-foreign (content f k (at reading k)) ≡ false
+
+-- what the ring knows is what its disk reads, and the disk recovers
+pub record Agrees (r : Ring) (m : Meaning) : Type 0 where
+  pub sized : Sized (r .format) (m .reading)
+  pub knows : r .known ≡ known (r .format) (m .reading)
+  pub free : Free (r .format) (m .reading)
+  pub native : Native (r .format) (m .reading)

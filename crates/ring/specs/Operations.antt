@@ -1,0 +1,48 @@
+-- The writes and flushes of a reservation, as far as the supply goes.
+use mathlib.Core.Path.{_≡_}
+use mathlib.Core.List.{List, [], _∷_}
+use Prim.Native.Nat.{ℕ, zero, suc}
+use Rattle.std.specs.declared.result.Result.{Result}
+use Rattle.std.specs.declared.result.Result.the-variants.{Ok, Err}
+use Rattle.record.specs.Sector.{encoded}
+use Rattle.record.specs.declared.sector.Format.{Format}
+use Rattle.disk.specs.Meaning.{Meaning, Wrote, Flushed, denied}
+use Rattle.disk.specs.declared.fault.Cause.the-variants.{Dark}
+use Rattle.disk.specs.declared.fault.Operation.{Operation}
+use Rattle.disk.specs.declared.fault.Operation.the-variants.{Write, Flush}
+use Rattle.ring.specs.Ring.{Step}
+use Rattle.ring.specs.declared.fault.RingFault.{RingFault}
+use Rattle.ring.specs.declared.fault.RingFault.the-variants.{Interrupted}
+
+-- an operation that succeeds: a write of bytes into a sector, or a flush
+pub data Op : Type 0 where
+  put : ℕ → List ℕ → Op
+  settle : Op
+
+abbrev pub Does : Meaning → Op → Meaning → Type 0
+Does m (put i bytes) after = Wrote m i bytes after
+Does m settle after = Flushed m after
+
+-- the meaning goes over by these operations, in their order, and by no other
+abbrev pub Went : Meaning → List Op → Meaning → Type 0
+Went m [] after = after ≡ m
+Went m (op ∷ ops) after = (between : Meaning) × Does m op between × Went between ops after
+
+-- the operations of these writes that succeed with so much supply: each write is followed by a flush
+unfoldable pub performed : Format → List Step → ℕ → List Op
+performed f [] supply = []
+performed f (step ∷ steps) zero = []
+performed f (step ∷ steps) (suc zero) = put (step .sector) (encoded (f .tag) (step .entry)) ∷ []
+performed f (step ∷ steps) (suc (suc supply)) =
+    put (step .sector) (encoded (f .tag) (step .entry)) ∷ settle ∷ performed f steps supply
+
+-- the current fails at a write or at its flush
+abbrev pub dark : Operation → Step → RingFault
+dark operation step = Interrupted (record { work = step .work; fault = denied Dark operation (step .sector) })
+
+-- what these writes answer with so much supply
+unfoldable pub outcome : {A : Type 0} → A → List Step → ℕ → Result A RingFault
+outcome value [] supply = Ok value
+outcome value (step ∷ steps) zero = Err (dark Write step)
+outcome value (step ∷ steps) (suc zero) = Err (dark Flush step)
+outcome value (step ∷ steps) (suc (suc supply)) = outcome value steps supply
