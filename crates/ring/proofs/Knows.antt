@@ -133,10 +133,6 @@ clear-from f reading s e q at-beyond ne =
     last-test false h = refl
 
 -- how many are left to carry
-left-step : (start s i : ℕ) (l : Live) (lives : List Live) → left start s i (l ∷ lives) ≡ cond (not (eqb i s) && leb (l .number .0) start) 1 0 + left start s (suc i) lives
-unfolding left
-left-step start s i l lives = refl
-
 left-at-most : (start s i : ℕ) (lives : List Live) → left start s i lives ≤ length lives
 unfolding left
 left-at-most start s i [] = omega arith

@@ -2,13 +2,14 @@
 use mathlib.Core.Path.{_≡_}
 use mathlib.Core.Bool.{Bool, true, false, cond, not, _&&_}
 use mathlib.Core.List.{List, [], _∷_, map}
-use Prim.Native.Nat.{ℕ, zero, suc, _+_, _%_, _^_, _<_, _≤_, max}
+use Prim.Native.Nat.{ℕ, zero, suc, _+_, _%_, _^_, _-_, _<_, _≤_, max, min}
 use lib.Dec.{eqb, leb, ltb}
 use lib.ListN.{length, getD, set}
 use Rattle.std.specs.declared.option.Option.{Option}
 use Rattle.std.specs.declared.option.Option.the-variants.{Some, None}
 use Rattle.std.specs.Iters.{counting}
 use Rattle.record.specs.Sector.{content, encoded}
+use Rattle.record.specs.declared.numbers.Rank.{Rank}
 use Rattle.record.specs.declared.sector.Content.{Content}
 use Rattle.record.specs.declared.sector.Content.the-variants.{Blank, Foreign, Record as Holds}
 use Rattle.record.specs.declared.sector.Format.{Format}
@@ -79,6 +80,10 @@ gap f reading = (top f reading + 1) % length reading
 abbrev pub beyond : Format → List (List ℕ) → ℕ
 beyond f reading = (top f reading + 2) % length reading
 
+-- the sector that a number names, of so many; the first where there is none
+abbrev pub named : ℕ → ℕ → ℕ
+named number sectors = cond (eqb sectors 0) 0 (number % sectors)
+
 -- a record is live when its number is that of its series' live record
 abbrev pub is-live : Format → List (List ℕ) → Record → Bool
 is-live f reading r = eqb (r .sequence .0) (live f reading (r .series) .number .0)
@@ -142,6 +147,11 @@ plan f (suc n) s end reading =
 abbrev pub known : Format → List (List ℕ) → Known
 known f reading = record { top = record { 0 = top f reading }; lives = map (live f reading) (counting 0 8) }
 
+-- the next record by what is known: its number is one more than the top, or the greatest that fits
+abbrev pub next-known : Known → ℕ → Rank → Record
+next-known k s end =
+    record { series = s; sequence = record { 0 = min (k .top .0 + 1) (2 ^ 64 - 1) }; end = end }
+
 -- the live record of a series among eight
 abbrev pub live-among : List Live → ℕ → Live
 live-among lives s = getD lives s none
@@ -151,7 +161,7 @@ abbrev pub carry-of : Known → ℕ → ℕ → Content → Option Record
 carry-of k s start Blank = None
 carry-of k s start Foreign = None
 carry-of k s start (Holds r) =
-    cond (not (eqb (r .series) s) && (ltb (r .series) 8 && (eqb (r .sequence .0) (live-among (k .lives) (r .series) .number .0) && leb (r .sequence .0) start)))
+    cond (not (eqb (r .series) s) && ((ltb (r .series) 8 && eqb (r .sequence .0) (live-among (k .lives) (r .series) .number .0)) && leb (r .sequence .0) start))
     (Some r)
     None
 
@@ -175,3 +185,13 @@ pub record Agrees (r : Ring) (m : Meaning) : Type 0 where
   pub knows : r .known ≡ known (r .format) (m .reading)
   pub free : Free (r .format) (m .reading)
   pub native : Native (r .format) (m .reading)
+
+-- the gap and the next record as the ring knows them, and the ring once that record is written
+abbrev pub known-gap : Ring → ℕ
+known-gap r = named (min (r .known .top .0 + 1) (2 ^ 64 - 1)) (r .format .sectors)
+
+abbrev pub next-of : Ring → ℕ → Rank → Record
+next-of r s end = next-known (r .known) s end
+
+abbrev pub with-noted : Ring → Record → Ring
+with-noted r entry = record { format = r .format; known = noted (r .known) entry }

@@ -1,8 +1,11 @@
 // What the ring knows of its sectors.
 ghost use mathlib.Core.Path.{_≡_};
+ghost use mathlib.Core.Bool.{_&&_};
 ghost use Prim.Native.Nat.{_<_};
-ghost use lib.ListN.{getD};
-ghost use Rattle.ring.specs.Ring.{none, noted};
+ghost use lib.Dec.{eqb, ltb};
+ghost use lib.ListN.{length, getD};
+ghost use Rattle.ring.specs.Ring.{none, noted, next-known, carry-of, live-among};
+use record::Content;
 use record::Rank;
 use record::Record;
 use record::Sequence;
@@ -44,5 +47,38 @@ impl Known {
             top: record.sequence,
             lives,
         }
+    }
+
+    // The next record.
+    pub(crate) fn next(self, series: u8, end: Rank) -> Record
+        ensures { λ r. ⌜ r ≡ next-known self series end ⌝ }
+    {
+        Record {
+            series,
+            sequence: Sequence(self.top.0.saturating_add(1)),
+            end,
+        }
+    }
+
+    // The record that has to be carried out of a sector before the series reserves: the live one of another series, no
+    // newer than the start of the search.
+    pub(crate) fn to_carry(self, series: u8, start: Sequence, content: Content) -> Option<Record>
+        ensures value { λ r. ⌜ r ≡ carry-of self series (start .0) content ⌝ }
+        ensures eight { λ _. ⌜ length (self .lives) ≡ 8 ⌝ }
+    {
+        match content {
+            Content::Record(record)
+                if record.series != series
+                    && self.is_live(record)
+                    && record.sequence.0 <= start.0 => Some(record),
+            _ => None,
+        }
+    }
+
+    // Whether a record is the live one of its series.
+    fn is_live(self, record: Record) -> bool
+        ensures { λ r. ⌜ r ≡ (ltb («record» .series) 8 && eqb («record» .sequence .0) (live-among (self .lives) («record» .series) .number .0)) ⌝ }
+    {
+        record.series < 8 && record.sequence.0 == self.live(record.series).number.0
     }
 }

@@ -1,10 +1,84 @@
 // The ring over any disk.
+ghost use mathlib.Core.Bool.{cond};
+ghost use mathlib.Core.Path.{_≡_};
+ghost use Prim.Native.Nat.{_+_, _%_, _^_, _<_};
+ghost use lib.Dec.{eqb};
+ghost use Rattle.std.specs.Results.{Cases};
+ghost use Rattle.std.specs.declared.result.Result.the-variants.{Ok, Err};
+ghost use Rattle.disk.specs.Meaning.{Meaning, at, answer-of, Flushed};
+ghost use Rattle.disk.specs.declared.fault.Operation.the-variants.{Write};
+ghost use Rattle.ring.specs.Operations.{written-to, Writes, Denied};
+ghost use Rattle.ring.specs.declared.fault.Work.the-variants.{Carry};
+ghost use Rattle.record.specs.Sector.{content};
+ghost use Rattle.ring.specs.Ring.{named, known-gap, beyond, top, Agrees};
+use crate::fault::Interrupted;
+use crate::fault::Work;
+use crate::fault::during;
 use crate::known::Known;
+use disk::Disk;
+use disk::DiskFault;
+use record::Content;
 use record::Format;
+use record::Rank;
+use record::Record;
+use record::classify;
+use record::encode;
 
 // The format of the records, and what is known of them.
 #[derive(Clone, Copy)]
 pub struct Ring {
     pub(crate) format: Format,
     pub(crate) known: Known,
+}
+
+// The sector that a sequence number names; the first where there is no sector.
+fn sector_of(number: u64, sectors: usize) -> usize
+    ensures { λ r. ⌜ r ≡ named number sectors ⌝ }
+{
+    if sectors == 0 {
+        return 0;
+    }
+    (number % sectors as u64) as usize
+}
+
+impl Ring {
+    // What the sector after the gap holds.
+    pub(crate) fn look<D: Disk>(&self, disk: &D) -> Result<Content, DiskFault>
+        ensures { λ r. ⌜ (Agrees (now (self .entry)) (meaning (now (disk .entry))) → top (now (self .entry) .format) (meaning (now (disk .entry)) .reading) < 2 ^ 62 → r ≡ Ok (content (now (self .entry) .format) (beyond (now (self .entry) .format) (meaning (now (disk .entry)) .reading)) (at (meaning (now (disk .entry)) .reading) (beyond (now (self .entry) .format) (meaning (now (disk .entry)) .reading))))) ⌝ }
+    {
+        let sector = sector_of(self.known.top.0.saturating_add(2), self.format.sectors);
+        let bytes = disk.read(sector)?;
+        Ok(classify(self.format, sector, &bytes))
+    }
+
+    // Writes the next record into the gap and notes it; tells the sector.
+    fn write_record<D: Disk>(
+        &mut self,
+        disk: &mut D,
+        work: Work,
+        series: u8,
+        end: Rank,
+    ) -> Result<usize, Interrupted>
+        requires { ⌜ series < 8 ⌝ }
+        ensures answer { λ r. ⌜ r ≡ written-to work (known-gap (now (self .entry))) (answer-of Write (meaning (now (disk .entry))) (known-gap (now (self .entry)))) ⌝ }
+        ensures effect { λ r. ⌜ Cases r (λ _. Writes (now (self .entry)) (meaning (now (disk .entry))) series end (now (self .exit)) (meaning (now (disk .exit)))) (λ _. (meaning (now (disk .exit)) ≡ meaning (now (disk .entry))) × (now (self .exit) ≡ now (self .entry))) ⌝ }
+    {
+        let sector = sector_of(self.known.top.0.saturating_add(1), self.format.sectors);
+        let record = self.known.next(series, end);
+        during(work, disk.write(sector, &encode(self.format.tag, record)))?;
+        self.known = self.known.note(record);
+        Ok(sector)
+    }
+
+    // Carries a live record: writes it anew into the gap, and flushes.
+    fn carry<D: Disk>(&mut self, disk: &mut D, record: Record) -> Result<(), Interrupted>
+        requires { ⌜ «record» .series < 8 ⌝ }
+        ensures work { λ r. ⌜ Cases r (λ _. Unit {0}) (λ stopped. stopped .work ≡ Carry («record» .series)) ⌝ }
+        ensures effect { λ r. ⌜ Cases r (λ _. (between : Meaning) × Writes (now (self .entry)) (meaning (now (disk .entry))) («record» .series) («record» .end) (now (self .exit)) between × Flushed between (meaning (now (disk .exit)))) (λ stopped. Denied (now (self .entry)) (meaning (now (disk .entry))) («record» .series) («record» .end) (stopped .fault) (now (self .exit)) (meaning (now (disk .exit)))) ⌝ }
+    {
+        let work = Work::Carry(record.series);
+        let sector = self.write_record(disk, work, record.series, record.end)?;
+        during(work, disk.flush(sector))?;
+        Ok(())
+    }
 }
