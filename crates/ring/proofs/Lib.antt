@@ -1,3 +1,4 @@
 pub mod Knows
+pub mod Searches
 pub mod Slots
 pub mod Writes

@@ -19,6 +19,7 @@ use Rattle.ring.specs.declared.fault.RingFault.{RingFault}
 use Rattle.ring.specs.declared.fault.RingFault.the-variants.{Interrupted as Stopped}
 use Rattle.ring.specs.declared.fault.Work.{Work}
 use Rattle.ring.specs.declared.ring.Ring.{Ring}
+use Rattle.ring.specs.declared.token.Reserved.{Reserved}
 
 -- an operation that succeeds: a write of bytes into a sector, or a flush
 pub data Op : Type 0 where
@@ -47,7 +48,7 @@ abbrev pub dark : Operation → Step → RingFault
 dark operation step = Stopped (record { work = step .work; fault = denied Dark operation (step .sector) })
 
 -- what these writes answer with so much supply
-unfoldable pub outcome : {A : Type 0} → A → List Step → ℕ → Result A RingFault
+unfoldable pub outcome : Reserved → List Step → ℕ → Result Reserved RingFault
 outcome value [] supply = Ok value
 outcome value (step ∷ steps) zero = Err (dark Write step)
 outcome value (step ∷ steps) (suc zero) = Err (dark Flush step)

@@ -2,6 +2,7 @@
 mod fault;
 mod known;
 mod ring;
+mod token;
 
 pub use fault::Interrupted;
 pub use fault::RingFault;
@@ -9,3 +10,5 @@ pub use fault::Work;
 pub use known::Known;
 pub use known::Live;
 pub use ring::Ring;
+pub use token::Reserved;
+pub use token::Written;
