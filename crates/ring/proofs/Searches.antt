@@ -344,3 +344,21 @@ module _ (s : ℕ) (whole : Meaning) (r : Ring) (m : Meaning) (search : Searchin
                 ∙ ap (performed (r .format) (carrying (r .format) (m .reading) q ∷ plan (r .format) fuel s end (with-record (r .format) (m .reading) new))) last-one))
                 (m′, put-last, refl));
           }
+
+-- the search begins
+pub search-begins : (r : Ring) (m : Meaning) (s : ℕ) → May-search r m s → Searching (r .format) s m r m
+search-begins r m s may =
+    let all : top (r .format) (m .reading) + 7 - top (r .format) (m .reading) ≡ 7 = omega arith in
+    let eight : length (r .known .lives) ≡ 8 =
+    ap (λ k. length (k .lives)) (may .agrees .knows) ∙ length-map-counting (live (r .format) (m .reading)) 0 8 in
+    record {
+      agrees = may .agrees;
+      format = refl;
+      since = omega arith;
+      few = omega (arith, left-seven (top (r .format) (m .reading)) s (r .known .lives) (may .series) eight);
+      rest =
+          record {
+            answers = λ value end. ap (λ (n : ℕ). outcome value (plan (r .format) n s end (m .reading)) (m .supply)) (sym all);
+            goes = λ end after went. subst (λ (n : ℕ). Went m (performed (r .format) (plan (r .format) n s end (m .reading)) (m .supply)) after) all went;
+          };
+    }

@@ -8,10 +8,14 @@ ghost use Rattle.std.specs.declared.result.Result.the-variants.{Ok, Err};
 ghost use Rattle.disk.specs.Meaning.{Meaning, at, answer-of, Flushed};
 ghost use Rattle.disk.specs.declared.fault.Operation.the-variants.{Write};
 ghost use Rattle.ring.specs.Operations.{written-to, Writes, Denied};
+ghost use Rattle.ring.specs.Search.{May-search, Cleared, Stopped};
 ghost use Rattle.ring.specs.declared.fault.Work.the-variants.{Carry};
 ghost use Rattle.record.specs.Sector.{content};
 ghost use Rattle.ring.specs.Ring.{named, known-gap, beyond, top, Agrees};
 use crate::fault::Interrupted;
+use crate::fault::RingFault;
+use crate::fault::RingFaultFromDisk;
+use crate::fault::RingFaultFromInterrupted;
 use crate::fault::Work;
 use crate::fault::during;
 use crate::known::Known;
@@ -80,5 +84,21 @@ impl Ring {
         let sector = self.write_record(disk, work, record.series, record.end)?;
         during(work, disk.flush(sector))?;
         Ok(())
+    }
+
+    // Looks at the sector after the gap, and carries what is live there of another series, until nothing is; tells the gap.
+    fn clear_the_way<D: Disk>(&mut self, disk: &mut D, series: u8) -> Result<usize, RingFault>
+        requires { ⌜ now self .known .top .0 + 8 < 2 ^ 62 ⌝ }
+        ensures { λ r. ⌜ (May-search (now (self .entry)) (meaning (now (disk .entry))) series → Cases r (λ sector. (sector ≡ known-gap (now (self .exit))) × Cleared (now (self .entry) .format) series (meaning (now (disk .entry))) (now (self .exit)) (meaning (now (disk .exit)))) (λ fault. Stopped (now (self .entry) .format) series (meaning (now (disk .entry))) fault (now (self .exit)) (meaning (now (disk .exit))))) ⌝ }
+    {
+        let start = self.known.top;
+        let gap = loop {
+            let content = self.look(disk)?;
+            match self.known.to_carry(series, start, content) {
+                Some(record) => self.carry(disk, record)?,
+                None => break sector_of(self.known.top.0.saturating_add(1), self.format.sectors),
+            }
+        };
+        Ok(gap)
     }
 }
