@@ -2,3 +2,4 @@ pub mod Faults
 pub mod Operations
 pub mod Ring
 pub mod Search
+pub mod Token

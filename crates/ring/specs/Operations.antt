@@ -14,10 +14,8 @@ use Rattle.disk.specs.declared.fault.DiskFault.{DiskFault}
 use Rattle.disk.specs.declared.fault.Operation.{Operation}
 use Rattle.disk.specs.declared.fault.Operation.the-variants.{Write, Flush}
 use Rattle.ring.specs.Ring.{Step, known-gap, next-of, with-noted}
-use Rattle.ring.specs.declared.fault.Interrupted.{Interrupted}
 use Rattle.ring.specs.declared.fault.RingFault.{RingFault}
 use Rattle.ring.specs.declared.fault.RingFault.the-variants.{Interrupted as Stopped}
-use Rattle.ring.specs.declared.fault.Work.{Work}
 use Rattle.ring.specs.declared.ring.Ring.{Ring}
 use Rattle.ring.specs.declared.token.Reserved.{Reserved}
 
@@ -53,11 +51,6 @@ outcome value [] supply = Ok value
 outcome value (step ∷ steps) zero = Err (dark Write step)
 outcome value (step ∷ steps) (suc zero) = Err (dark Flush step)
 outcome value (step ∷ steps) (suc (suc supply)) = outcome value steps supply
-
--- what a write answers with the sector that it went to, a denial with the work that it stopped
-abbrev pub written-to : Work → ℕ → Result (Unit {0}) DiskFault → Result ℕ Interrupted
-written-to work sector (Ok done) = Ok sector
-written-to work sector (Err fault) = Err (record { work = work; fault = fault })
 
 -- a write of a record, and the ring that notes it
 abbrev pub Writes : Ring → Meaning → ℕ → Rank → Ring → Meaning → Type 0

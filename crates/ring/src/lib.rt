@@ -11,4 +11,5 @@ pub use known::Known;
 pub use known::Live;
 pub use ring::Ring;
 pub use token::Reserved;
+pub use token::Unconfirmed;
 pub use token::Written;

@@ -4,10 +4,12 @@ ghost use mathlib.Core.Path.{_≡_};
 ghost use Prim.Native.Nat.{_+_, _%_, _^_, _<_};
 ghost use lib.Dec.{eqb};
 ghost use Rattle.std.specs.Results.{Cases};
+ghost use Rattle.std.specs.Vec.{made};
+ghost use Rattle.ring.specs.Faults.{with-work};
 ghost use Rattle.std.specs.declared.result.Result.the-variants.{Ok, Err};
 ghost use Rattle.disk.specs.Meaning.{Meaning, at, answer-of, Flushed};
 ghost use Rattle.disk.specs.declared.fault.Operation.the-variants.{Write};
-ghost use Rattle.ring.specs.Operations.{written-to, Writes, Denied};
+ghost use Rattle.ring.specs.Operations.{Writes, Denied};
 ghost use Rattle.ring.specs.Search.{May-search, Cleared, Stopped};
 ghost use Rattle.ring.specs.declared.fault.Work.the-variants.{Carry};
 ghost use Rattle.record.specs.Sector.{content};
@@ -55,23 +57,30 @@ impl Ring {
         Ok(classify(self.format, sector, &bytes))
     }
 
-    // Writes the next record into the gap and notes it; tells the sector.
+    // The sector that the next record goes to.
+    fn gap(&self) -> usize
+        ensures { λ r. ⌜ r ≡ known-gap (now (self .entry)) ⌝ }
+    {
+        sector_of(self.known.top.0.saturating_add(1), self.format.sectors)
+    }
+
+    // Writes the next record into the gap, and notes it.
     fn write_record<D: Disk>(
         &mut self,
         disk: &mut D,
+        gap: usize,
         work: Work,
         series: u8,
         end: Rank,
-    ) -> Result<usize, Interrupted>
-        requires { ⌜ series < 8 ⌝ }
-        ensures answer { λ r. ⌜ r ≡ written-to work (known-gap (now (self .entry))) (answer-of Write (meaning (now (disk .entry))) (known-gap (now (self .entry)))) ⌝ }
+    ) -> Result<(), Interrupted>
+        requires { ⌜ series < 8 ⌝ ∗ ⌜ gap ≡ known-gap (now self) ⌝ }
+        ensures answer { λ r. ⌜ r ≡ with-work work (answer-of Write (meaning (now (disk .entry))) (known-gap (now (self .entry)))) ⌝ }
         ensures effect { λ r. ⌜ Cases r (λ _. Writes (now (self .entry)) (meaning (now (disk .entry))) series end (now (self .exit)) (meaning (now (disk .exit)))) (λ _. (meaning (now (disk .exit)) ≡ meaning (now (disk .entry))) × (now (self .exit) ≡ now (self .entry))) ⌝ }
     {
-        let sector = sector_of(self.known.top.0.saturating_add(1), self.format.sectors);
         let record = self.known.next(series, end);
-        during(work, disk.write(sector, &encode(self.format.tag, record)))?;
+        during(work, disk.write(gap, &encode(self.format.tag, record)))?;
         self.known = self.known.note(record);
-        Ok(sector)
+        Ok(())
     }
 
     // Carries a live record: writes it anew into the gap, and flushes.
@@ -81,22 +90,24 @@ impl Ring {
         ensures effect { λ r. ⌜ Cases r (λ _. (between : Meaning) × Writes (now (self .entry)) (meaning (now (disk .entry))) («record» .series) («record» .end) (now (self .exit)) between × Flushed between (meaning (now (disk .exit)))) (λ stopped. Denied (now (self .entry)) (meaning (now (disk .entry))) («record» .series) («record» .end) (stopped .fault) (now (self .exit)) (meaning (now (disk .exit)))) ⌝ }
     {
         let work = Work::Carry(record.series);
-        let sector = self.write_record(disk, work, record.series, record.end)?;
-        during(work, disk.flush(sector))?;
+        let gap = self.gap();
+        self.write_record(disk, gap, work, record.series, record.end)?;
+        during(work, disk.flush(gap))?;
         Ok(())
     }
 
     // Looks at the sector after the gap, and carries what is live there of another series, until nothing is; tells the gap.
     fn clear_the_way<D: Disk>(&mut self, disk: &mut D, series: u8) -> Result<usize, RingFault>
         requires { ⌜ now self .known .top .0 + 8 < 2 ^ 62 ⌝ }
-        ensures { λ r. ⌜ (May-search (now (self .entry)) (meaning (now (disk .entry))) series → Cases r (λ sector. (sector ≡ known-gap (now (self .exit))) × Cleared (now (self .entry) .format) series (meaning (now (disk .entry))) (now (self .exit)) (meaning (now (disk .exit)))) (λ fault. Stopped (now (self .entry) .format) series (meaning (now (disk .entry))) fault (now (self .exit)) (meaning (now (disk .exit))))) ⌝ }
+        ensures gap { λ r. ⌜ made r (λ gap. gap ≡ known-gap (now (self .exit))) ⌝ }
+        ensures search { λ r. ⌜ (May-search (now (self .entry)) (meaning (now (disk .entry))) series → Cases r (λ _. Cleared (now (self .entry) .format) series (meaning (now (disk .entry))) (now (self .exit)) (meaning (now (disk .exit)))) (λ fault. Stopped (now (self .entry) .format) series (meaning (now (disk .entry))) fault (now (self .exit)) (meaning (now (disk .exit))))) ⌝ }
     {
         let start = self.known.top;
         let gap = loop {
             let content = self.look(disk)?;
             match self.known.to_carry(series, start, content) {
                 Some(record) => self.carry(disk, record)?,
-                None => break sector_of(self.known.top.0.saturating_add(1), self.format.sectors),
+                None => break self.gap(),
             }
         };
         Ok(gap)

@@ -2,7 +2,6 @@
 use mathlib.Core.Path.{sym, ap, _∙_}
 use native.Mathlib.Omega.{arith}
 use Rattle.std.proofs.shelf.Results.{err-from-errBy}
-use Rattle.ring.specs.Ring.{named}
 use Rattle.ring.proofs.Searches.{search-begins}
 use Rattle.ring.proofs.Turns.{ok-same, ok-not-err, noted-since, carries-from, carries-less, search-low, turn-finds, turn-ends, turn-goes-on, turn-stops}
 use Rattle.ring.proofs.ring.Ring.clear_the_way.Needs as need
@@ -11,9 +10,14 @@ pub loop-content-holds : need.loop-content-holds
 loop-content-holds g c = (omega arith, λ may. search-begins _ _ _ may)
 
 pub returns-in-Break-content : need.returns-in-Break-content
-returns-in-Break-content g c may =
-    let search = c .loop-content .inv .1 may in
-    absurd (ok-not-err (c .in-Break-content .ensures tt (search .agrees) (search-low _ _ _ _ _ search (may .numbers))))
+returns-in-Break-content g c =
+    let p = err-from-errBy (c .from-residual .result) (c .from-residual .ensures .1) in
+    record {
+      gap = rw (p .1) tt;
+      search = λ may.
+          let search = c .loop-content .inv .1 may in
+          absurd (ok-not-err (c .in-Break-content .ensures tt (search .agrees) (search-low _ _ _ _ _ search (may .numbers))));
+    }
 
 pub loop-content-less : need.loop-content-less
 loop-content-less g c =
@@ -45,23 +49,28 @@ loop-content-again g c = (
 )
 
 pub returns-in-Break-carry : need.returns-in-Break-carry
-returns-in-Break-carry g c may =
-    let search = c .loop-content .inv .1 may in
-    let read = ok-same (c .in-Continue-content .ensures tt (search .agrees) (search-low _ _ _ _ _ search (may .numbers))) in
-    let finds = turn-finds _ _ _ _ _ search (may .numbers) _ _ (ap (λ k. k .top .0) (may .agrees .knows)) read in
-    let stopped =
-    turn-stops _ _ _ _ _ search (may .numbers) (c .in-Some .record) (sym finds ∙ sym (c .in-Some .ensures tt .value))
-    (c .in-Break-carry .field-0 .0) _ _
-    (c .in-Break-carry .ensures tt .work)
-    (c .in-Break-carry .ensures tt .effect) in
+returns-in-Break-carry g c =
     let p = err-from-errBy (c .from-residual-in-Break-carry .result) (c .from-residual-in-Break-carry .ensures .1) in
-    rw (p .1, p .2) stopped
+    record {
+      gap = rw (p .1) tt;
+      search = λ may.
+          let search = c .loop-content .inv .1 may in
+          let read = ok-same (c .in-Continue-content .ensures tt (search .agrees) (search-low _ _ _ _ _ search (may .numbers))) in
+          let finds = turn-finds _ _ _ _ _ search (may .numbers) _ _ (ap (λ k. k .top .0) (may .agrees .knows)) read in
+          rw (p .1, p .2)
+          (turn-stops _ _ _ _ _ search (may .numbers) (c .in-Some .record) (sym finds ∙ sym (c .in-Some .ensures tt .value))
+          (c .in-Break-carry .field-0 .0) _ _
+          (c .in-Break-carry .ensures tt .work)
+          (c .in-Break-carry .ensures tt .effect));
+    }
 
 pub returns : need.returns
-returns g c may =
-    let search = c .loop-content .inv .1 may in
-    let read = ok-same (c .in-Continue-content .ensures tt (search .agrees) (search-low _ _ _ _ _ search (may .numbers))) in
-    let finds = turn-finds _ _ _ _ _ search (may .numbers) _ _ (ap (λ k. k .top .0) (may .agrees .knows)) read in (
-      c .sector-of-gap .ensures ∙ ap (λ n. named n (c .loop-content .self .format .sectors)) (c .saturating-add .ensures),
-      turn-ends _ _ _ _ _ search (may .numbers) (sym finds ∙ sym (c .in-None .ensures tt .value)),
-    )
+returns g c =
+    record {
+      gap = c .gap-gap .ensures;
+      search = λ may.
+          let search = c .loop-content .inv .1 may in
+          let read = ok-same (c .in-Continue-content .ensures tt (search .agrees) (search-low _ _ _ _ _ search (may .numbers))) in
+          let finds = turn-finds _ _ _ _ _ search (may .numbers) _ _ (ap (λ k. k .top .0) (may .agrees .knows)) read in
+          turn-ends _ _ _ _ _ search (may .numbers) (sym finds ∙ sym (c .in-None .ensures tt .value));
+    }
