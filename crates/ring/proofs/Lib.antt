@@ -1,4 +1,5 @@
 pub mod Knows
+pub mod Reserves
 pub mod Searches
 pub mod Slots
 pub mod Turns

@@ -2,15 +2,22 @@
 use mathlib.Core.Path.{_≡_}
 use mathlib.Core.List.{List, [], _∷_}
 use Prim.Native.Nat.{ℕ, _+_, _-_, _^_, _<_, _≤_}
-use Rattle.std.specs.declared.option.Option.the-variants.{None}
+use mathlib.Core.Bool.{cond, _&&_}
+use lib.Dec.{leb, ltb}
+use Rattle.std.specs.declared.option.Option.{Option}
+use Rattle.std.specs.declared.option.Option.the-variants.{Some, None}
+use Rattle.std.specs.declared.result.Result.{Result}
 use Rattle.std.specs.declared.result.Result.the-variants.{Err}
+use Rattle.record.specs.declared.numbers.Rank.{Rank}
 use Rattle.record.specs.declared.sector.Format.{Format}
 use Rattle.disk.specs.Meaning.{Meaning}
-use Rattle.ring.specs.Operations.{Went, performed, outcome}
-use Rattle.ring.specs.Ring.{top, carried, plan, reserving, left, Agrees, Step}
+use Rattle.ring.specs.Operations.{Went, performed, outcome, Writes}
+use Rattle.ring.specs.Ring.{top, carried, plan, reserving, left, known-gap, Agrees, Step}
 use Rattle.ring.specs.declared.fault.RingFault.{RingFault}
+use Rattle.ring.specs.declared.fault.RingFault.the-variants.{Series, End, Exhausted}
 use Rattle.ring.specs.declared.ring.Ring.{Ring}
 use Rattle.ring.specs.declared.token.Reserved.{Reserved}
+use Rattle.ring.specs.declared.token.Written.{Written}
 
 -- what is left of a reservation's writes answers and does what the whole does from the start
 pub record Continues (f : Format) (s : ℕ) (whole : Meaning) (m : Meaning) (steps : ℕ → List Step) : Type 0 where
@@ -51,3 +58,35 @@ pub record May-search (r : Ring) (m : Meaning) (s : ℕ) : Type 0 where
   pub agrees : Agrees r m
   pub series : s < 8
   pub numbers : top (r .format) (m .reading) + 8 < 2 ^ 62
+
+-- a reservation that is done, or that darkness stopped: it answers and does what its plan asks for
+pub record Ended (f : Format) (s : ℕ) (end : Rank) (whole : Meaning) (answer : Result Reserved RingFault) (r : Ring) (m : Meaning) : Type 0 where
+  pub agrees : Agrees r m
+  pub format : r .format ≡ f
+  pub answers : outcome (record { series = s; end = end }) (plan f 7 s (end .0) (whole .reading)) (whole .supply) ≡ answer
+  pub goes : Went whole (performed f (plan f 7 s (end .0) (whole .reading)) (whole .supply)) m
+
+-- a reservation that is written: the search has ended, and the record is in the gap
+pub record Begun (f : Format) (s : ℕ) (end : Rank) (whole : Meaning) (w : Written) (r : Ring) (m : Meaning) : Type 0 where
+  pub ring : Ring
+  pub meaning : Meaning
+  pub cleared : Cleared f s whole ring meaning
+  pub writes : Writes ring meaning s end r m
+  pub token : w ≡ record { series = s; end = end; sector = known-gap ring }
+
+-- what a reservation is refused for before anything is touched: the series, the end, or that sequence numbers run short
+abbrev pub refusal : Format → ℕ → ℕ → Rank → Option RingFault
+refusal f top s end =
+    cond (ltb s 8)
+    (cond (ltb 0 (end .0) && leb (end .0) (f .top .0 + 1))
+    (cond (leb (top + 8) (2 ^ 62 - 1)) None (Some Exhausted))
+    (Some (End end)))
+    (Some (Series s))
+
+-- a reservation that nothing refuses, on a ring that agrees with its disk
+pub record May-reserve (r : Ring) (m : Meaning) (s : ℕ) (end : Rank) : Type 0 where
+  pub agrees : Agrees r m
+  pub series : s < 8
+  pub numbers : top (r .format) (m .reading) + 8 < 2 ^ 62
+  pub some : 1 ≤ end .0
+  pub ends : end .0 ≤ r .format .top .0 + 1

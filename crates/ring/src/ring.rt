@@ -10,7 +10,7 @@ ghost use Rattle.std.specs.declared.result.Result.the-variants.{Ok, Err};
 ghost use Rattle.disk.specs.Meaning.{Meaning, at, answer-of, Flushed};
 ghost use Rattle.disk.specs.declared.fault.Operation.the-variants.{Write};
 ghost use Rattle.ring.specs.Operations.{Writes, Denied};
-ghost use Rattle.ring.specs.Search.{May-search, Cleared, Stopped};
+ghost use Rattle.ring.specs.Search.{May-search, Cleared, Stopped, May-reserve, Begun, Ended};
 ghost use Rattle.ring.specs.declared.fault.Work.the-variants.{Carry};
 ghost use Rattle.record.specs.Sector.{content};
 ghost use Rattle.ring.specs.Ring.{named, known-gap, beyond, top, Agrees};
@@ -21,6 +21,7 @@ use crate::fault::RingFaultFromInterrupted;
 use crate::fault::Work;
 use crate::fault::during;
 use crate::known::Known;
+use crate::token::Written;
 use disk::Disk;
 use disk::DiskFault;
 use record::Content;
@@ -111,5 +112,19 @@ impl Ring {
             }
         };
         Ok(gap)
+    }
+
+    // Clears the way and writes the reservation, which is then to be confirmed or given up.
+    fn begin<D: Disk>(&mut self, disk: &mut D, series: u8, end: Rank) -> Result<Written, RingFault>
+        requires { ⌜ series < 8 ⌝ ∗ ⌜ now self .known .top .0 + 8 < 2 ^ 62 ⌝ }
+        ensures { λ r. ⌜ (May-reserve (now (self .entry)) (meaning (now (disk .entry))) series end → Cases r (λ written. Begun (now (self .entry) .format) series end (meaning (now (disk .entry))) written (now (self .exit)) (meaning (now (disk .exit)))) (λ fault. Ended (now (self .entry) .format) series end (meaning (now (disk .entry))) (Err fault) (now (self .exit)) (meaning (now (disk .exit))))) ⌝ }
+    {
+        let gap = self.clear_the_way(disk, series)?;
+        self.write_record(disk, gap, Work::Reservation(series), series, end)?;
+        Ok(Written {
+            series,
+            end,
+            sector: gap,
+        })
     }
 }
