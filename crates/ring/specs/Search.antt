@@ -7,7 +7,7 @@ use lib.Dec.{leb, ltb}
 use Rattle.std.specs.declared.option.Option.{Option}
 use Rattle.std.specs.declared.option.Option.the-variants.{Some, None}
 use Rattle.std.specs.declared.result.Result.{Result}
-use Rattle.std.specs.declared.result.Result.the-variants.{Err}
+use Rattle.std.specs.declared.result.Result.the-variants.{Ok, Err}
 use Rattle.record.specs.declared.numbers.Rank.{Rank}
 use Rattle.record.specs.declared.sector.Format.{Format}
 use Rattle.disk.specs.Meaning.{Meaning}
@@ -82,6 +82,10 @@ refusal f top s end =
     (cond (leb (top + 8) (2 ^ 62 - 1)) None (Some Exhausted))
     (Some (End end)))
     (Some (Series s))
+
+abbrev pub admitted : Option RingFault → Result (Unit {0}) RingFault
+admitted None = Ok tt
+admitted (Some fault) = Err fault
 
 -- a reservation that nothing refuses, on a ring that agrees with its disk
 pub record May-reserve (r : Ring) (m : Meaning) (s : ℕ) (end : Rank) : Type 0 where

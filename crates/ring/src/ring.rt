@@ -4,13 +4,14 @@ ghost use mathlib.Core.Path.{_≡_};
 ghost use Prim.Native.Nat.{_+_, _%_, _^_, _<_};
 ghost use lib.Dec.{eqb};
 ghost use Rattle.std.specs.Results.{Cases};
+ghost use Rattle.std.specs.declared.option.Option.the-variants.{Some, None};
 ghost use Rattle.std.specs.Vec.{made};
 ghost use Rattle.ring.specs.Faults.{with-work};
 ghost use Rattle.std.specs.declared.result.Result.the-variants.{Ok, Err};
 ghost use Rattle.disk.specs.Meaning.{Meaning, at, answer-of, Flushed};
 ghost use Rattle.disk.specs.declared.fault.Operation.the-variants.{Write};
 ghost use Rattle.ring.specs.Operations.{Writes, Denied};
-ghost use Rattle.ring.specs.Search.{May-search, Cleared, Stopped, May-reserve, Begun, Ended};
+ghost use Rattle.ring.specs.Search.{May-search, Cleared, Stopped, May-reserve, Begun, Ended, refusal, admitted};
 ghost use Rattle.ring.specs.declared.fault.Work.the-variants.{Carry};
 ghost use Rattle.record.specs.Sector.{content};
 ghost use Rattle.ring.specs.Ring.{named, known-gap, beyond, top, Agrees};
@@ -21,11 +22,13 @@ use crate::fault::RingFaultFromInterrupted;
 use crate::fault::Work;
 use crate::fault::during;
 use crate::known::Known;
+use crate::token::Reserved;
 use crate::token::Written;
 use disk::Disk;
 use disk::DiskFault;
 use record::Content;
 use record::Format;
+use record::LAST_SEQUENCE;
 use record::Rank;
 use record::Record;
 use record::classify;
@@ -126,5 +129,39 @@ impl Ring {
             end,
             sector: gap,
         })
+    }
+
+    // Whether a reservation may be made at all.
+    fn admit(&self, series: u8, end: Rank) -> Result<(), RingFault>
+        ensures { λ r. ⌜ r ≡ admitted (refusal (now (self .entry) .format) (now (self .entry) .known .top .0) series end) ⌝ }
+    {
+        if series >= 8 {
+            return Err(RingFault::Series(series));
+        }
+        if end.0 == 0 || end.0 - 1 > self.format.top.0 {
+            return Err(RingFault::End(end));
+        }
+        if self.known.top.0 > LAST_SEQUENCE - 8 {
+            return Err(RingFault::Exhausted);
+        }
+        Ok(())
+    }
+
+    // Reserves the ranks of a series up to a new end: carries what is in the way, writes the reservation and flushes it.
+    pub fn reserve<D: Disk>(
+        &mut self,
+        disk: &mut D,
+        series: u8,
+        end: Rank,
+    ) -> Result<Reserved, RingFault>
+        ensures refused { λ r. ⌜ ((fault : RingFault) → refusal (now (self .entry) .format) (now (self .entry) .known .top .0) series end ≡ Some fault → (r ≡ Err fault) × (now (self .exit) ≡ now (self .entry)) × (meaning (now (disk .exit)) ≡ meaning (now (disk .entry)))) ⌝ }
+        ensures reserves { λ r. ⌜ (Agrees (now (self .entry)) (meaning (now (disk .entry))) → refusal (now (self .entry) .format) (now (self .entry) .known .top .0) series end ≡ None → Ended (now (self .entry) .format) series end (meaning (now (disk .entry))) r (now (self .exit)) (meaning (now (disk .exit)))) ⌝ }
+    {
+        self.admit(series, end)?;
+        let written = self.begin(disk, series, end)?;
+        match written.confirm(disk) {
+            Ok(reserved) => Ok(reserved),
+            Err(unconfirmed) => Err(RingFault::from(unconfirmed.give_up())),
+        }
     }
 }
