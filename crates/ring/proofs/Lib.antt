@@ -1,5 +1,6 @@
 pub mod Knows
 pub mod Reserves
+pub mod Scans
 pub mod Searches
 pub mod Slots
 pub mod Turns

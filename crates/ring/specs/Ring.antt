@@ -7,6 +7,8 @@ use lib.Dec.{eqb, leb, ltb}
 use lib.ListN.{length, getD, set}
 use Rattle.std.specs.declared.option.Option.{Option}
 use Rattle.std.specs.declared.option.Option.the-variants.{Some, None}
+use Rattle.std.specs.declared.result.Result.{Result}
+use Rattle.std.specs.declared.result.Result.the-variants.{Ok, Err}
 use Rattle.std.specs.Iters.{counting}
 use Rattle.record.specs.Sector.{content, encoded}
 use Rattle.record.specs.declared.numbers.Rank.{Rank}
@@ -15,6 +17,8 @@ use Rattle.record.specs.declared.sector.Content.the-variants.{Blank, Foreign, R
 use Rattle.record.specs.declared.sector.Format.{Format}
 use Rattle.record.specs.declared.sector.Record.{Record}
 use Rattle.disk.specs.Meaning.{Meaning, at}
+use Rattle.ring.specs.declared.fault.RingFault.{RingFault}
+use Rattle.ring.specs.declared.fault.RingFault.the-variants.{Size, Foreign as Foreign′, LiveInGap}
 use Rattle.ring.specs.declared.fault.Work.{Work}
 use Rattle.ring.specs.declared.fault.Work.the-variants.{Carry, Reservation}
 use Rattle.ring.specs.declared.known.Known.{Known}
@@ -147,10 +151,26 @@ plan f (suc n) s end reading =
 abbrev pub known : Format → List (List ℕ) → Known
 known f reading = record { top = record { 0 = top f reading }; lives = map (live f reading) (counting 0 8) }
 
+-- what is known once one record more is met
+abbrev pub met : Known → Record → Known
+met k r =
+    record {
+      top = record { 0 = max (k .top .0) (r .sequence .0) };
+      lives = set (k .lives) (r .series) (newer (getD (k .lives) (r .series) none) (live-of r));
+    }
+
 -- the next record by what is known: its number is one more than the top, or the greatest that fits
 abbrev pub next-known : Known → ℕ → Rank → Record
 next-known k s end =
     record { series = s; sequence = record { 0 = min (k .top .0 + 1) (2 ^ 64 - 1) }; end = end }
+
+-- the same of the first n sectors
+abbrev pub known-below : Format → List (List ℕ) → ℕ → Known
+known-below f reading n =
+    record {
+      top = record { 0 = top-below f reading n };
+      lives = map (λ s. live-below f reading s n) (counting 0 8);
+    }
 
 -- the live record of a series among eight
 abbrev pub live-among : List Live → ℕ → Live
@@ -195,3 +215,38 @@ next-of r s end = next-known (r .known) s end
 
 abbrev pub with-noted : Ring → Record → Ring
 with-noted r entry = record { format = r .format; known = noted (r .known) entry }
+
+-- the first of two, if there is one
+abbrev pub first-of : {A : Type 0} → Option A → Option A → Option A
+first-of (Some x) y = Some x
+first-of None y = y
+
+-- the lowest foreign sector among the first n
+unfoldable pub foreign-below : Format → List (List ℕ) → ℕ → Option ℕ
+foreign-below f reading zero = None
+foreign-below f reading (suc n) = first-of (foreign-below f reading n) (cond (is-foreign (content f n (at reading n))) (Some n) None)
+
+-- whether a slot holds a live record
+abbrev pub holds-live : Format → List (List ℕ) → Option Record → Bool
+holds-live f reading None = false
+holds-live f reading (Some r) = is-live f reading r
+
+-- what a pass over all sectors tells: the lowest foreign one, or what there is to know
+abbrev pub scanned : Format → List (List ℕ) → Option ℕ → Result Known RingFault
+scanned f reading (Some sector) = Err (Foreign′ sector)
+scanned f reading None = Ok (known f reading)
+
+-- a ring that is known, unless its gap holds a live record
+abbrev pub settled : Format → List (List ℕ) → Result Known RingFault → Result Ring RingFault
+settled f reading (Err fault) = Err fault
+settled f reading (Ok k) =
+    cond (holds-live f reading (slot f reading (gap f reading)))
+    (Err (LiveInGap (gap f reading)))
+    (Ok (record { format = f; known = k }))
+
+-- what recovery answers
+abbrev pub recovered : Format → List (List ℕ) → Result Ring RingFault
+recovered f reading =
+    cond (leb 10 (f .sectors) && leb (f .sectors) 2048)
+    (settled f reading (scanned f reading (foreign-below f reading (length reading))))
+    (Err (Size (f .sectors)))

@@ -3,8 +3,8 @@ ghost use mathlib.Core.Path.{_≡_};
 ghost use mathlib.Core.Bool.{_&&_};
 ghost use Prim.Native.Nat.{_<_};
 ghost use lib.Dec.{eqb, ltb};
-ghost use lib.ListN.{length, getD};
-ghost use Rattle.ring.specs.Ring.{none, noted, next-known, carry-of, live-among};
+ghost use lib.ListN.{length, getD, replicate};
+ghost use Rattle.ring.specs.Ring.{none, newer, met, noted, next-known, carry-of, live-among};
 use record::Content;
 use record::Rank;
 use record::Record;
@@ -24,6 +24,13 @@ pub struct Known {
     pub lives: [Live; 8],
 }
 
+// The one of the higher number.
+fn newest(a: Live, b: Live) -> Live
+    ensures { λ r. ⌜ r ≡ newer a b ⌝ }
+{
+    if a.number.0 < b.number.0 { b } else { a }
+}
+
 impl Known {
     // The live record of a series.
     pub(crate) fn live(self, series: u8) -> Live
@@ -31,6 +38,40 @@ impl Known {
         ensures { λ r. ⌜ r ≡ getD (self .lives) series none ⌝ }
     {
         self.lives[series as usize]
+    }
+
+    // Nothing is known yet.
+    pub(crate) fn nothing() -> Known
+        ensures { λ r. ⌜ r ≡ record { top = record { 0 = 0 }; lives = replicate 8 none } ⌝ }
+    {
+        let live = Live {
+            number: Sequence(0),
+            end: Rank(0),
+        };
+        Known {
+            top: Sequence(0),
+            lives: [live; 8],
+        }
+    }
+
+    // What is known once one record more is met.
+    pub(crate) fn meet(self, record: Record) -> Known
+        requires { ⌜ «record» .series < 8 ⌝ }
+        ensures { λ r. ⌜ r ≡ met self «record» ⌝ }
+    {
+        let mut lives = self.lives;
+        let live = lives[record.series as usize];
+        lives[record.series as usize] = newest(
+            live,
+            Live {
+                number: record.sequence,
+                end: record.end,
+            },
+        );
+        Known {
+            top: Sequence(self.top.0.max(record.sequence.0)),
+            lives,
+        }
     }
 
     // What is known once a record is written that is newer than all others.
@@ -76,7 +117,7 @@ impl Known {
     }
 
     // Whether a record is the live one of its series.
-    fn is_live(self, record: Record) -> bool
+    pub(crate) fn is_live(self, record: Record) -> bool
         ensures { λ r. ⌜ r ≡ (ltb («record» .series) 8 && eqb («record» .sequence .0) (live-among (self .lives) («record» .series) .number .0)) ⌝ }
     {
         record.series < 8 && record.sequence.0 == self.live(record.series).number.0

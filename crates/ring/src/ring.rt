@@ -8,13 +8,13 @@ ghost use Rattle.std.specs.declared.option.Option.the-variants.{Some, None};
 ghost use Rattle.std.specs.Vec.{made};
 ghost use Rattle.ring.specs.Faults.{with-work};
 ghost use Rattle.std.specs.declared.result.Result.the-variants.{Ok, Err};
-ghost use Rattle.disk.specs.Meaning.{Meaning, at, answer-of, Flushed};
+ghost use Rattle.disk.specs.Meaning.{Meaning, at, count, answer-of, Flushed};
 ghost use Rattle.disk.specs.declared.fault.Operation.the-variants.{Write};
 ghost use Rattle.ring.specs.Operations.{Writes, Denied};
 ghost use Rattle.ring.specs.Search.{May-search, Cleared, Stopped, May-reserve, Begun, Ended, refusal, admitted};
 ghost use Rattle.ring.specs.declared.fault.Work.the-variants.{Carry};
 ghost use Rattle.record.specs.Sector.{content};
-ghost use Rattle.ring.specs.Ring.{named, known-gap, beyond, top, Agrees};
+ghost use Rattle.ring.specs.Ring.{named, known-gap, beyond, top, scanned, foreign-below, Agrees};
 use crate::fault::Interrupted;
 use crate::fault::RingFault;
 use crate::fault::RingFaultFromDisk;
@@ -49,6 +49,23 @@ fn sector_of(number: u64, sectors: usize) -> usize
         return 0;
     }
     (number % sectors as u64) as usize
+}
+
+// One pass over all sectors: what there is to know of them, or the lowest foreign one.
+fn scan<D: Disk>(disk: &D, format: Format) -> Result<Known, RingFault>
+    requires { ⌜ format .sectors ≡ count (meaning (now disk)) ⌝ }
+    ensures { λ r. ⌜ r ≡ scanned format (meaning (now (disk .entry)) .reading) (foreign-below format (meaning (now (disk .entry)) .reading) (count (meaning (now (disk .entry))))) ⌝ }
+{
+    let mut known = Known::nothing();
+    for sector in 0..format.sectors {
+        let bytes = disk.read(sector)?;
+        match classify(format, sector, &bytes) {
+            Content::Blank => {}
+            Content::Foreign => return Err(RingFault::Foreign(sector)),
+            Content::Record(record) => known = known.meet(record),
+        }
+    }
+    Ok(known)
 }
 
 impl Ring {
