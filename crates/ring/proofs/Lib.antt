@@ -1,4 +1,5 @@
 pub mod Knows
+pub mod Recovers
 pub mod Reserves
 pub mod Scans
 pub mod Searches

@@ -185,6 +185,12 @@ carry-of k s start (Holds r) =
     (Some r)
     None
 
+-- whether a sector holds a live record, by what is known
+abbrev pub live-by : Known → Content → Bool
+live-by k Blank = false
+live-by k Foreign = false
+live-by k (Holds r) = ltb (r .series) 8 && eqb (r .sequence .0) (live-among (k .lives) (r .series) .number .0)
+
 -- how many series other than s have a live record no newer than where the search began; the first of the list is series i
 unfoldable pub left : ℕ → ℕ → ℕ → List Live → ℕ
 left start s i [] = 0

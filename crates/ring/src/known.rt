@@ -4,7 +4,7 @@ ghost use mathlib.Core.Bool.{_&&_};
 ghost use Prim.Native.Nat.{_<_};
 ghost use lib.Dec.{eqb, ltb};
 ghost use lib.ListN.{length, getD, replicate};
-ghost use Rattle.ring.specs.Ring.{none, newer, met, noted, next-known, carry-of, live-among};
+ghost use Rattle.ring.specs.Ring.{none, newer, met, noted, next-known, carry-of, live-among, live-by};
 use record::Content;
 use record::Rank;
 use record::Record;
@@ -121,5 +121,15 @@ impl Known {
         ensures { λ r. ⌜ r ≡ (ltb («record» .series) 8 && eqb («record» .sequence .0) (live-among (self .lives) («record» .series) .number .0)) ⌝ }
     {
         record.series < 8 && record.sequence.0 == self.live(record.series).number.0
+    }
+
+    // Whether a sector holds a live record.
+    pub(crate) fn holds_live(self, content: Content) -> bool
+        ensures { λ r. ⌜ r ≡ live-by self content ⌝ }
+    {
+        match content {
+            Content::Record(record) => self.is_live(record),
+            _ => false,
+        }
     }
 }

@@ -14,7 +14,7 @@ ghost use Rattle.ring.specs.Operations.{Writes, Denied};
 ghost use Rattle.ring.specs.Search.{May-search, Cleared, Stopped, May-reserve, Begun, Ended, refusal, admitted};
 ghost use Rattle.ring.specs.declared.fault.Work.the-variants.{Carry};
 ghost use Rattle.record.specs.Sector.{content};
-ghost use Rattle.ring.specs.Ring.{named, known-gap, beyond, top, scanned, foreign-below, Agrees};
+ghost use Rattle.ring.specs.Ring.{named, known-gap, beyond, top, scanned, foreign-below, recovered, Agrees};
 use crate::fault::Interrupted;
 use crate::fault::RingFault;
 use crate::fault::RingFaultFromDisk;
@@ -26,6 +26,8 @@ use crate::token::Reserved;
 use crate::token::Written;
 use disk::Disk;
 use disk::DiskFault;
+use disk::LEAST_SECTORS;
+use disk::MOST_SECTORS;
 use record::Content;
 use record::Format;
 use record::LAST_SEQUENCE;
@@ -69,6 +71,26 @@ fn scan<D: Disk>(disk: &D, format: Format) -> Result<Known, RingFault>
 }
 
 impl Ring {
+    // Reads all sectors of a disk: the ring as they have it, or why there is none.
+    pub fn recover<D: Disk>(disk: &D, tag: u8, top: Rank) -> Result<Ring, RingFault>
+        ensures answer { λ r. ⌜ r ≡ recovered (record { tag = tag; top = top; sectors = count (meaning (now (disk .entry))) }) (meaning (now (disk .entry)) .reading) ⌝ }
+        ensures agrees { λ r. ⌜ (top .0 < 2 ^ 53 → made r (λ ring. Agrees ring (meaning (now (disk .entry))))) ⌝ }
+    {
+        let sectors = disk.sectors();
+        if sectors < LEAST_SECTORS || MOST_SECTORS < sectors {
+            return Err(RingFault::Size(sectors));
+        }
+        let format = Format { tag, top, sectors };
+        let known = scan(disk, format)?;
+        let ring = Ring { format, known };
+        let gap = ring.gap();
+        let bytes = disk.read(gap)?;
+        if ring.known.holds_live(classify(format, gap, &bytes)) {
+            return Err(RingFault::LiveInGap(gap));
+        }
+        Ok(ring)
+    }
+
     // What the sector after the gap holds.
     pub(crate) fn look<D: Disk>(&self, disk: &D) -> Result<Content, DiskFault>
         ensures { λ r. ⌜ (Agrees (now (self .entry)) (meaning (now (disk .entry))) → top (now (self .entry) .format) (meaning (now (disk .entry)) .reading) < 2 ^ 62 → r ≡ Ok (content (now (self .entry) .format) (beyond (now (self .entry) .format) (meaning (now (disk .entry)) .reading)) (at (meaning (now (disk .entry)) .reading) (beyond (now (self .entry) .format) (meaning (now (disk .entry)) .reading))))) ⌝ }
