@@ -1,3 +1,5 @@
+pub mod Carries
+pub mod Cuts
 pub mod Knows
 pub mod Recovers
 pub mod Reserves

@@ -31,9 +31,9 @@ use Rattle.ring.specs.declared.fault.Work.the-variants.{Carry}
 use Rattle.ring.specs.declared.known.Live.{Live}
 use Rattle.ring.specs.declared.ring.Ring.{Ring}
 use Rattle.ring.specs.declared.token.Reserved.{Reserved}
-use Rattle.ring.proofs.Knows.{knows-live, known-written, native-written, carried-is, clear-from, left-set, left-seven}
-use Rattle.ring.proofs.Slots.{Placed, placed}
-use Rattle.ring.proofs.Writes.{Clear, Writable, gap-lies, old-beyond, top-written, free-written, sized-written, same-length}
+use Rattle.ring.proofs.Carries.{carry-fewer, carry-writable, carry-clear}
+use Rattle.ring.proofs.Knows.{known-written, native-written, left-seven}
+use Rattle.ring.proofs.Writes.{Clear, Writable, gap-lies, top-written, free-written, sized-written, same-length}
 
 -- the plan, by whether something is to be carried
 pub plan-ends : (f : Format) (n s end : ℕ) (reading : List (List ℕ)) → carried f reading s ≡ None → plan f n s end reading ≡ reserving f reading s end ∷ []
@@ -151,23 +151,8 @@ module _ (s : ℕ) (whole : Meaning) (r : Ring) (m : Meaning) (search : Searchin
       left-over end = plan-ends (r .format) (top (r .format) (whole .reading) + 7 - top (r .format) (m .reading)) s end (m .reading) e
 
   module _ (q : Record) (e : carried (r .format) (m .reading) s ≡ Some q) where
-    found : (slot (r .format) (m .reading) (beyond (r .format) (m .reading)) ≡ Some q) × (q .series ≢ s) × (q .sequence .0 ≡ live (r .format) (m .reading) (q .series) .number .0)
-    found = carried-is (r .format) (m .reading) s q e
-
-    in-place : Placed (r .format) (beyond (r .format) (m .reading)) q
-    in-place = placed (r .format) (m .reading) (beyond (r .format) (m .reading)) q (found .0)
-
-    old : q .sequence .0 ≤ top (r .format) (whole .reading)
-    old = omega (arith, old-beyond (r .format) (m .reading) (search .agrees .sized) q (found .0), search .few)
-
-    eight : length (r .known .lives) ≡ 8
-    eight = ap (λ k. length (k .lives)) (search .agrees .knows) ∙ length-map-counting (live (r .format) (m .reading)) 0 8
-
-    its-number : live-among (r .known .lives) (q .series) .number .0 ≡ q .sequence .0
-    its-number =
-        ap (λ k. live-among (k .lives) (q .series) .number .0) (search .agrees .knows)
-        ∙ ap (λ (l : Live). l .number .0) (knows-live (r .format) (m .reading) (q .series) (in-place .series))
-        ∙ sym (found .2)
+    lives-known : r .known .lives ≡ known (r .format) (m .reading) .lives
+    lives-known = ap (λ k. k .lives) (search .agrees .knows)
 
     abbrev new : Record
     new = next (r .format) (m .reading) (q .series) (q .end .0)
@@ -176,26 +161,14 @@ module _ (s : ℕ) (whole : Meaning) (r : Ring) (m : Meaning) (search : Searchin
         left (top (r .format) (whole .reading)) s 0 (set (r .known .lives) (q .series) (live-of new)) + 1
         ≡ left (top (r .format) (whole .reading)) s 0 (r .known .lives)
     fewer =
-        left-set (top (r .format) (whole .reading)) s 0 (q .series) (r .known .lives) (live-of new)
-        (omega (arith, eight, in-place .series))
-        (λ h. found .1 (omega arith))
-        (omega (arith, its-number, old))
-        (omega (arith, search .since))
+        carry-fewer (r .format) (m .reading) (search .agrees .sized) (r .known .lives) lives-known s (top (r .format) (whole .reading)) (search .since) (search .few) numbers q e
 
     writable : Writable (r .format) (m .reading) (q .series) (q .end .0)
     writable =
-        record {
-          series = in-place .series;
-          numbered = omega (arith, search .few, fewer);
-          some = in-place .some;
-          ends = in-place .ends;
-        }
+        carry-writable (r .format) (m .reading) (search .agrees .sized) (r .known .lives) lives-known s (top (r .format) (whole .reading)) (search .since) (search .few) numbers q e
 
     clear : Clear (r .format) (m .reading) (q .series)
-    clear o at-beyond ne =
-        let both : Some o ≡ Some q = sym at-beyond ∙ found .0 in
-        let same : o ≡ q = cc in
-        absurd (ne (ap (λ (x : Record). x .series) same))
+    clear = carry-clear (r .format) (m .reading) s q e
 
     -- the writes that are left, with this carry first
     carries-left : (end : ℕ) → (n : ℕ) → top (r .format) (whole .reading) + 7 - top (r .format) (m .reading) ≡ suc n → plan (r .format) (top (r .format) (whole .reading) + 7 - top (r .format) (m .reading)) s end (m .reading) ≡ carrying (r .format) (m .reading) q ∷ plan (r .format) n s end (with-record (r .format) (m .reading) new)
