@@ -1,4 +1,5 @@
 pub mod Faults
+pub mod Left
 pub mod Operations
 pub mod Ring
 pub mod Search
