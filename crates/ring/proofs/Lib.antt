@@ -1,6 +1,7 @@
 pub mod Carries
 pub mod Cuts
 pub mod Knows
+pub mod Leaves
 pub mod Recovers
 pub mod Reserves
 pub mod Scans
