@@ -2,22 +2,26 @@
 use mathlib.Core.Path.{_≡_, refl, sym, ap, subst, _∙_}
 use mathlib.Core.List.{List, [], _∷_}
 use mathlib.Core.Logic.{_⊎_, inl, inr, ⊎-elim, _≢_}
-use Prim.Native.Nat.{ℕ, zero, suc, _+_, _*_, _^_, _<_, _≤_}
+use Prim.Native.Nat.{ℕ, zero, suc, _+_, _*_, _^_, _<_, _≤_, min}
 use native.Mathlib.Omega.{arith}
 use lib.ListN.{length, set}
 use Rattle.std.specs.declared.option.Option.{Option}
 use Rattle.std.specs.declared.option.Option.the-variants.{Some, None}
+use Rattle.std.specs.declared.result.Result.the-variants.{Ok, Err}
 use Rattle.std.proofs.shelf.Counted.{length-map-counting}
 use Rattle.std.proofs.shelf.Tests.{cases-eq}
 use Rattle.record.specs.Sector.{encoded}
 use Rattle.record.specs.declared.sector.Format.{Format}
 use Rattle.record.specs.declared.sector.Record.{Record}
 use Rattle.disk.specs.Meaning.{Meaning, Wrote, Flushed, Cut}
-use Rattle.ring.specs.Left.{Recovers, end-of, Left, Reserved-up-to, Lawful-reservation, Cut-within, Reserved-whole, Seven-carries}
-use Rattle.ring.specs.Operations.{Op, put, settle, Went, performed}
+use Rattle.disk.specs.declared.fault.Operation.the-variants.{Write, Flush}
+use Rattle.ring.specs.Left.{Recovers, end-of, Left, Reserved-up-to, Lawful-reservation, Cut-within, Reserved-whole, Seven-carries, Follows, stops, carries, Operations-counted, Reservation-laws}
+use Rattle.ring.specs.Operations.{Went, performed, outcome, dark}
 use Rattle.ring.specs.Ring.{slot, top, live, live-of, gap, beyond, carried, next, with-record, known, noted, reserving, carrying, plan, left, Step}
+use Rattle.ring.specs.declared.fault.RingFault.{RingFault}
 use Rattle.ring.specs.declared.known.Known.{Known}
 use Rattle.ring.specs.declared.known.Live.{Live}
+use Rattle.ring.specs.declared.token.Reserved.{Reserved}
 use Rattle.ring.proofs.Carries.{carry-clear, carry-fewer, carry-writable}
 use Rattle.ring.proofs.Cuts.{cut-at-rest, cut-unflushed, recovers-blanked, top-blanked, live-blanked}
 use Rattle.ring.proofs.Knows.{carried-is, clear-from, known-written, left-seven, native-written}
@@ -106,6 +110,38 @@ first-of-steps f m after step steps (suc (suc p)) went =
       done = went .2 .2;
     }))
 
+-- sectors that are all kept
+abbrev at-rest : List (List ℕ) → Meaning
+at-rest reading = record { reading = reading; kept = reading; supply = 0; beyond = [] }
+
+went-none : (f : Format) (m after : Meaning) (p : ℕ) → Went m (performed f [] p) after → after ≡ m
+unfolding performed
+went-none f m after p went = went
+
+length-zero : (f : Format) (s end : ℕ) (reading : List (List ℕ)) → length (plan f 0 s end reading) ≡ 1
+unfolding plan
+length-zero f s end reading = refl
+
+some-by : (f : Format) (n s end : ℕ) (reading : List (List ℕ)) (x : Option Record) → carried f reading s ≡ x → 1 ≤ length (plan f n s end reading)
+some-by f n s end reading None e = let l = ap length (plan-ends f n s end reading e) in omega arith
+some-by f zero s end reading (Some q) e = let l = length-zero f s end reading in omega arith
+some-by f (suc n) s end reading (Some q) e = let l = ap length (plan-carries f n s end reading q e) in omega arith
+
+-- at least the reservation is written
+some-steps : (f : Format) (n s end : ℕ) (reading : List (List ℕ)) → 1 ≤ length (plan f n s end reading)
+some-steps f n s end reading = some-by f n s end reading (carried f reading s) refl
+
+-- what is left after a carry, by what is read then
+rest-from :
+    (f : Format) (s end n : ℕ) (m after : Meaning) (q : Record)
+    (d : Done f m after (carrying f (m .reading) q) (plan f n s end (with-record f (m .reading) (next f (m .reading) (q .series) (q .end .0)))) (m .supply)) →
+    Went (d .second) (performed f (plan f n s end (d .second .reading)) (d .second .supply)) after
+rest-from f s end n m after q d =
+    let reads : d .second .reading ≡ with-record f (m .reading) (next f (m .reading) (q .series) (q .end .0)) = d .flushed .reads ∙ d .wrote .reads in
+    let p : d .rest ≡ d .second .supply = omega (arith, d .spent, d .wrote .spends, d .flushed .spends) in
+    subst (λ (k : ℕ). Went (d .second) (performed f (plan f n s end (d .second .reading)) k) after) p
+    (subst (λ (xs : List (List ℕ)). Went (d .second) (performed f (plan f n s end xs) (d .rest)) after) (sym reads) (d .done))
+
 carry-ends : (f : Format) (reading : List (List ℕ)) (recovers : Recovers f reading) (s : ℕ) (q : Record) → carried f reading s ≡ Some q → Writable f reading (q .series) (q .end .0) → (t : ℕ) → end-of f (with-record f reading (next f reading (q .series) (q .end .0))) t ≡ end-of f reading t
 carry-ends f reading recovers s q e w t =
     ⊎-elim (λ same. same)
@@ -127,6 +163,14 @@ module _ (f : Format) (s end start : ℕ) (series : s < 8) (some : 1 ≤ end) (u
     recovers : Recovers f after
     ends : (t : ℕ) → (end-of f after t ≡ end-of f reading t) ⊎ ((t ≡ s) × (end-of f after t ≡ end))
     tops : top f reading ≤ top f after
+    most : top f after ≤ start + 8
+
+  -- what a reservation with supply enough leaves, from there
+  record Done-well (reading after : List (List ℕ)) : Type 0 where
+    recovers : Recovers f after
+    own : end-of f after s ≡ end
+    others : (t : ℕ) → t ≢ s → end-of f after t ≡ end-of f reading t
+    tops : top f reading < top f after
     most : top f after ≤ start + 8
 
   as-is : (n : ℕ) (m left : Meaning) (supply : ℕ) → State n m → Cut m supply left → Leaves (m .reading) (left .reading)
@@ -181,35 +225,32 @@ module _ (f : Format) (s end start : ℕ) (series : s < 8) (some : 1 ≤ end) (u
       subst (Leaves (m .reading)) (sym (same ∙ reads)) (written-leaves n m state e)
 
   -- a carry that is done: one fewer to come, and all ends as before
-  module _ (n : ℕ) (m m1 m2 : Meaning) (state : State (suc n) m) (q : Record) (e : carried f (m .reading) s ≡ Some q) (wrote : Wrote m (gap f (m .reading)) (encoded (f .tag) (next f (m .reading) (q .series) (q .end .0))) m1) (flushed : Flushed m1 m2) where
+  module _ (n : ℕ) (m m2 : Meaning) (state : State (suc n) m) (q : Record) (e : carried f (m .reading) s ≡ Some q) (reads : m2 .reading ≡ with-record f (m .reading) (next f (m .reading) (q .series) (q .end .0))) where
     cw : Writable f (m .reading) (q .series) (q .end .0)
     cw = carry-writable f (m .reading) (state .recovers .sized) (known f (m .reading) .lives) refl s start (state .since) (state .few) numbers q e
 
-    carry-reads : m2 .reading ≡ with-record f (m .reading) (next f (m .reading) (q .series) (q .end .0))
-    carry-reads = flushed .reads ∙ wrote .reads
-
     carry-top : top f (m2 .reading) ≡ top f (m .reading) + 1
-    carry-top = ap (top f) carry-reads ∙ top-written f (m .reading) (state .recovers .sized) (q .series) (q .end .0) cw
+    carry-top = ap (top f) reads ∙ top-written f (m .reading) (state .recovers .sized) (q .series) (q .end .0) cw
 
     carry-lives : known f (m2 .reading) .lives ≡ set (known f (m .reading) .lives) (q .series) (live-of (next f (m .reading) (q .series) (q .end .0)))
     carry-lives =
-        ap (λ (xs : List (List ℕ)). known f xs .lives) carry-reads
+        ap (λ (xs : List (List ℕ)). known f xs .lives) reads
         ∙ sym (ap (λ (k : Known). k .lives) (known-written f (m .reading) (state .recovers .sized) (q .series) (q .end .0) cw (state .recovers .free)))
 
-    carry-state : State n m2
-    carry-state =
+    carry-state : m2 .kept ≡ m2 .reading → State n m2
+    carry-state kept′ =
         let one = carry-fewer f (m .reading) (state .recovers .sized) (known f (m .reading) .lives) refl s start (state .since) (state .few) numbers q e in
         let same = ap (left start s 0) carry-lives in
         record {
-          recovers = subst (Recovers f) (sym carry-reads) (recovers-written f (m .reading) (state .recovers) (q .series) (q .end .0) cw (carry-clear f (m .reading) s q e));
-          kept = flushed .keeps ∙ sym (flushed .reads);
+          recovers = subst (Recovers f) (sym reads) (recovers-written f (m .reading) (state .recovers) (q .series) (q .end .0) cw (carry-clear f (m .reading) s q e));
+          kept = kept′;
           since = omega (arith, state .since, carry-top);
           few = omega (arith, state .few, carry-top);
           fuel = omega (arith, state .fuel, carry-top);
         }
 
     carry-end : (t : ℕ) → end-of f (m2 .reading) t ≡ end-of f (m .reading) t
-    carry-end t = ap (λ (xs : List (List ℕ)). end-of f xs t) carry-reads ∙ carry-ends f (m .reading) (state .recovers) s q e cw t
+    carry-end t = ap (λ (xs : List (List ℕ)). end-of f xs t) reads ∙ carry-ends f (m .reading) (state .recovers) s q e cw t
 
     carry-then : (after : List (List ℕ)) → Leaves (m2 .reading) after → Leaves (m .reading) after
     carry-then after l =
@@ -218,6 +259,16 @@ module _ (f : Format) (s end start : ℕ) (series : s < 8) (some : 1 ≤ end) (u
           ends = λ t. ⊎-elim (λ h. inl (h ∙ carry-end t)) inr (l .ends t);
           tops = omega (arith, l .tops, carry-top);
           most = l .most;
+        }
+
+    carry-done : (after : List (List ℕ)) → Done-well (m2 .reading) after → Done-well (m .reading) after
+    carry-done after d =
+        record {
+          recovers = d .recovers;
+          own = d .own;
+          others = λ t ne. d .others t ne ∙ carry-end t;
+          tops = omega (arith, d .tops, carry-top);
+          most = d .most;
         }
 
   -- the current fails at the flush of a carry
@@ -263,29 +314,134 @@ module _ (f : Format) (s end start : ℕ) (series : s < 8) (some : 1 ≤ end) (u
       (⊎-elim
       (λ h. carry-torn n m after left supply state q e (h .1) cut)
       (λ h.
-      let d = h .done in
-      let p : h .rest ≡ h .second .supply = omega (arith, h .spent, h .wrote .spends, h .flushed .spends) in
-      carry-then n m (h .first) (h .second) state q e (h .wrote) (h .flushed) (left .reading)
+      let reads = h .flushed .reads ∙ h .wrote .reads in
+      carry-then n m (h .second) state q e reads (left .reading)
       (leaves-by n (h .second) after left supply (carried f (h .second .reading) s) refl
-      (carry-state n m (h .first) (h .second) state q e (h .wrote) (h .flushed))
-      (subst (λ (k : ℕ). Went (h .second) (performed f (plan f n s end (h .second .reading)) k) after) p
-      (subst (λ (xs : List (List ℕ)). Went (h .second) (performed f (plan f n s end xs) (h .rest)) after)
-      (sym (carry-reads n m (h .first) (h .second) state q e (h .wrote) (h .flushed))) d))
+      (carry-state n m (h .second) state q e reads (h .flushed .keeps ∙ sym (h .flushed .reads)))
+      (rest-from f s end n m after q h)
       cut)))
       (first-of-steps f m after (carrying f (m .reading) q) (plan f n s end (with-record f (m .reading) (next f (m .reading) (q .series) (q .end .0)))) (m .supply) went′)
 
+  -- the plan follows the rule
+  follows-by : (n : ℕ) (m : Meaning) (x : Option Record) → carried f (m .reading) s ≡ x → State n m → Follows f s end (m .reading) (plan f n s end (m .reading))
+  follows-by n m None e state =
+      subst (Follows f s end (m .reading)) (sym (plan-ends f n s end (m .reading) e)) (stops e)
+  follows-by zero m (Some q) e state = absurd (none-left m state q e)
+  follows-by (suc n) m (Some q) e state =
+      let m2 : Meaning = at-rest (with-record f (m .reading) (next f (m .reading) (q .series) (q .end .0))) in
+      subst (Follows f s end (m .reading)) (sym (plan-carries f n s end (m .reading) q e))
+      (carries q e (follows-by n m2 (carried f (m2 .reading) s) refl (carry-state n m m2 state q e refl refl)))
+
+  -- with supply enough all is written and kept
+  reserved-by :
+      (n : ℕ) (m after : Meaning) (x : Option Record) → carried f (m .reading) s ≡ x → State n m →
+      2 * length (plan f n s end (m .reading)) ≤ m .supply →
+      Went m (performed f (plan f n s end (m .reading)) (m .supply)) after →
+      Done-well (m .reading) (after .reading) × (after .kept ≡ after .reading)
+  reserved-by n m after None e state enough went =
+      let steps = plan-ends f n s end (m .reading) e in
+      let two : 2 ≤ m .supply = omega (arith, ap length steps) in
+      let went′ = subst (λ (l : List Step). Went m (performed f l (m .supply)) after) steps went in
+      ⊎-elim (λ h. absurd (omega (arith, h .0)))
+      (⊎-elim (λ h. absurd (omega (arith, h .0)))
+      (λ h.
+      let last : after ≡ h .second = went-none f (h .second) after (h .rest) (h .done) in
+      let reads : after .reading ≡ with-record f (m .reading) (next f (m .reading) s end) =
+      ap (λ (y : Meaning). y .reading) last ∙ h .flushed .reads ∙ h .wrote .reads in
+      let kept′ : after .kept ≡ after .reading =
+      ap (λ (y : Meaning). y .kept) last ∙ h .flushed .keeps ∙ sym (h .flushed .reads) ∙ sym (ap (λ (y : Meaning). y .reading) last) in
+      let w = last-writable n m state in
+      let c = clear-from f (m .reading) s e in
+      let t = top-written f (m .reading) (state .recovers .sized) s end w in (
+        subst (Done-well (m .reading)) (sym reads)
+            (record {
+              recovers = recovers-written f (m .reading) (state .recovers) s end w c;
+              own = end-written f (m .reading) (state .recovers) s end w c;
+              others = end-other f (m .reading) (state .recovers) s end w c;
+              tops = omega arith;
+              most = omega (arith, state .few);
+            }),
+        kept′,
+      )))
+      (first-of-steps f m after (reserving f (m .reading) s end) [] (m .supply) went′)
+  reserved-by zero m after (Some q) e state enough went = absurd (none-left m state q e)
+  reserved-by (suc n) m after (Some q) e state enough went =
+      let steps = plan-carries f n s end (m .reading) q e in
+      let more : 4 ≤ m .supply = omega (arith, ap length steps, some-steps f n s end (with-record f (m .reading) (next f (m .reading) (q .series) (q .end .0)))) in
+      let went′ = subst (λ (l : List Step). Went m (performed f l (m .supply)) after) steps went in
+      ⊎-elim (λ h. absurd (omega (arith, h .0)))
+      (⊎-elim (λ h. absurd (omega (arith, h .0)))
+      (λ h.
+      let reads = h .flushed .reads ∙ h .wrote .reads in
+      let left-over : 2 * length (plan f n s end (h .second .reading)) ≤ h .second .supply =
+      omega (arith, ap length steps, ap (λ (xs : List (List ℕ)). length (plan f n s end xs)) reads, h .wrote .spends, h .flushed .spends) in
+      let d =
+      reserved-by n (h .second) after (carried f (h .second .reading) s) refl
+      (carry-state n m (h .second) state q e reads (h .flushed .keeps ∙ sym (h .flushed .reads)))
+      left-over
+      (rest-from f s end n m after q h) in
+      (carry-done n m (h .second) state q e reads (after .reading) (d .0), d .1)))
+      (first-of-steps f m after (carrying f (m .reading) q) (plan f n s end (with-record f (m .reading) (next f (m .reading) (q .series) (q .end .0)))) (m .supply) went′)
+
 -- from the start
-pub cut-within : Cut-within
-cut-within f s end m after left′ supply lawful went cut =
+abbrev begun : (f : Format) (s end : ℕ) (m : Meaning) (lawful : Lawful-reservation f s end m) → State f s end (top f (m .reading)) (lawful .series) (lawful .some) (lawful .ends) (lawful .numbers) 7 m
+begun f s end m lawful =
     let eight = length-map-counting (live f (m .reading)) 0 8 in
-    let l =
-    leaves-by f s end (top f (m .reading)) (lawful .series) (lawful .some) (lawful .ends) (lawful .numbers) 7 m after left′ supply (carried f (m .reading) s) refl
-    (record {
+    record {
       recovers = lawful .recovers;
       kept = lawful .kept;
       since = omega arith;
       few = omega (arith, left-seven (top f (m .reading)) s (known f (m .reading) .lives) (lawful .series) eight);
       fuel = omega arith;
-    })
-    went cut in
+    }
+
+pub cut-within : Cut-within
+cut-within f s end m after left′ supply lawful went cut =
+    let l =
+    leaves-by f s end (top f (m .reading)) (lawful .series) (lawful .some) (lawful .ends) (lawful .numbers) 7 m after left′ supply (carried f (m .reading) s) refl
+    (begun f s end m lawful) went cut in
     record { recovers = l .recovers; ends = l .ends; tops = l .tops; most = l .most }
+
+pub reserved-whole : Reserved-whole
+reserved-whole f s end m after lawful enough went =
+    let d =
+    reserved-by f s end (top f (m .reading)) (lawful .series) (lawful .some) (lawful .ends) (lawful .numbers) 7 m after (carried f (m .reading) s) refl
+    (begun f s end m lawful) enough went in (
+      record { recovers = d .0 .recovers; own = d .0 .own; others = d .0 .others; tops = d .0 .tops; most = d .0 .most },
+      d .1,
+    )
+
+length-by : (f : Format) (n s end : ℕ) (reading : List (List ℕ)) (x : Option Record) → carried f reading s ≡ x → length (plan f n s end reading) ≤ suc n
+length-by f n s end reading None e = let l = ap length (plan-ends f n s end reading e) in omega arith
+length-by f zero s end reading (Some q) e = let l = length-zero f s end reading in omega arith
+length-by f (suc n) s end reading (Some q) e =
+    let l = ap length (plan-carries f n s end reading q e) in
+    let after = with-record f reading (next f reading (q .series) (q .end .0)) in
+    let rest = length-by f n s end after (carried f after s) refl in
+    omega arith
+
+pub seven-carries : Seven-carries
+seven-carries f s end m lawful = (
+  follows-by f s end (top f (m .reading)) (lawful .series) (lawful .some) (lawful .ends) (lawful .numbers) 7 m (carried f (m .reading) s) refl (begun f s end m lawful),
+  length-by f 7 s end (m .reading) (carried f (m .reading) s) refl,
+)
+
+-- two operations for each write
+pub operations-counted : Operations-counted
+unfolding performed outcome
+operations-counted f value [] supply = (omega arith, λ _. refl, λ h. absurd (omega arith))
+operations-counted f value (step ∷ steps) zero = (omega arith, λ h. absurd (omega arith), λ _. (dark Write step, refl))
+operations-counted f value (step ∷ steps) (suc zero) = (omega arith, λ h. absurd (omega arith), λ _. (dark Flush step, refl))
+operations-counted f value (step ∷ steps) (suc (suc p)) =
+    let rest = operations-counted f value steps p in
+    (omega (arith, rest .0), λ h. rest .1 (omega arith), λ h. rest .2 (omega arith))
+
+pub reservation-laws : Reservation-laws
+reservation-laws =
+    record {
+      follows = seven-carries;
+      counted = operations-counted;
+      whole = reserved-whole;
+      cut-within = cut-within;
+      at-rest = cut-at-rest;
+    }

@@ -1,13 +1,18 @@
 -- What a cut leaves of a ring, in terms of what its sectors read.
 use mathlib.Core.Path.{_≡_}
-use mathlib.Core.List.{List}
+use mathlib.Core.List.{List, [], _∷_}
 use mathlib.Core.Logic.{_⊎_, _≢_}
-use Prim.Native.Nat.{ℕ, _+_, _*_, _^_, _<_, _≤_}
+use Prim.Native.Nat.{ℕ, _+_, _*_, _^_, _<_, _≤_, min}
 use lib.ListN.{length}
+use Rattle.std.specs.declared.option.Option.the-variants.{Some, None}
+use Rattle.std.specs.declared.result.Result.the-variants.{Ok, Err}
 use Rattle.record.specs.declared.sector.Format.{Format}
+use Rattle.record.specs.declared.sector.Record.{Record}
 use Rattle.disk.specs.Meaning.{Meaning, Cut}
-use Rattle.ring.specs.Operations.{Went, performed}
-use Rattle.ring.specs.Ring.{top, live, plan, Sized, Free, Native}
+use Rattle.ring.specs.Operations.{Went, performed, outcome}
+use Rattle.ring.specs.Ring.{top, live, carried, with-record, carrying, reserving, plan, Sized, Free, Native, Step}
+use Rattle.ring.specs.declared.fault.RingFault.{RingFault}
+use Rattle.ring.specs.declared.token.Reserved.{Reserved}
 
 -- sectors that recover: none is foreign, and the gap holds no live record
 pub record Recovers (f : Format) (reading : List (List ℕ)) : Type 0 where
@@ -66,6 +71,32 @@ Reserved-whole =
 abbrev pub Cut-at-rest : Type 0
 Cut-at-rest = (m left : Meaning) (supply : ℕ) → m .kept ≡ m .reading → Cut m supply left → left .reading ≡ m .reading
 
--- a reservation makes at most seven carries
+-- the writes that the rule asks for: a carry while the sector after the gap holds another series' live record, then the reservation
+pub data Follows (f : Format) (s end : ℕ) : List (List ℕ) → List Step → Type 0 where
+  stops : {reading : List (List ℕ)} → carried f reading s ≡ None → Follows f s end reading (reserving f reading s end ∷ [])
+  carries :
+      {reading : List (List ℕ)} {steps : List Step} (q : Record) → carried f reading s ≡ Some q →
+      Follows f s end (with-record f reading (carrying f reading q .entry)) steps →
+      Follows f s end reading (carrying f reading q ∷ steps)
+
+-- the plan is what the rule asks for, and has at most seven carries
 abbrev pub Seven-carries : Type 0
-Seven-carries = (f : Format) (s end : ℕ) (m : Meaning) → Lawful-reservation f s end m → length (plan f 7 s end (m .reading)) ≤ 8
+Seven-carries =
+    (f : Format) (s end : ℕ) (m : Meaning) → Lawful-reservation f s end m →
+    Follows f s end (m .reading) (plan f 7 s end (m .reading)) × (length (plan f 7 s end (m .reading)) ≤ 8)
+
+-- with k carries a reservation takes 2 × (k + 1) writes and flushes; with that supply it succeeds, and with less it is stopped
+abbrev pub Operations-counted : Type 0
+Operations-counted =
+    (f : Format) (value : Reserved) (steps : List Step) (supply : ℕ) →
+    (length (performed f steps supply) ≡ min supply (2 * length steps))
+    × (2 * length steps ≤ supply → outcome value steps supply ≡ Ok value)
+    × (supply < 2 * length steps → (fault : RingFault) × (outcome value steps supply ≡ Err fault))
+
+-- the laws of a reservation
+pub record Reservation-laws : Type 0 where
+  pub follows : Seven-carries
+  pub counted : Operations-counted
+  pub whole : Reserved-whole
+  pub cut-within : Cut-within
+  pub at-rest : Cut-at-rest
