@@ -185,6 +185,10 @@ carry-of k s start (Holds r) =
     (Some r)
     None
 
+-- the end of a series by what is known; 0 for a series above 7
+abbrev pub known-end : Known → ℕ → Rank
+known-end k s = cond (ltb s 8) (live-among (k .lives) s .end) (record { 0 = 0 })
+
 -- whether a sector holds a live record, by what is known
 abbrev pub live-by : Known → Content → Bool
 live-by k Blank = false

@@ -4,7 +4,7 @@ ghost use mathlib.Core.Bool.{_&&_};
 ghost use Prim.Native.Nat.{_<_};
 ghost use lib.Dec.{eqb, ltb};
 ghost use lib.ListN.{length, getD, replicate};
-ghost use Rattle.ring.specs.Ring.{none, newer, met, noted, next-known, carry-of, live-among, live-by};
+ghost use Rattle.ring.specs.Ring.{none, newer, met, noted, next-known, carry-of, live-among, live-by, known-end};
 use record::Content;
 use record::Rank;
 use record::Record;
@@ -38,6 +38,16 @@ impl Known {
         ensures { λ r. ⌜ r ≡ getD (self .lives) series none ⌝ }
     {
         self.lives[series as usize]
+    }
+
+    // The end of a series; 0 without a record, and for a series above 7.
+    pub(crate) fn end(self, series: u8) -> Rank
+        ensures { λ r. ⌜ r ≡ known-end self series ⌝ }
+    {
+        if series >= 8 {
+            return Rank(0);
+        }
+        self.lives[series as usize].end
     }
 
     // Nothing is known yet.

@@ -6,6 +6,7 @@ ghost use lib.Dec.{eqb};
 ghost use Rattle.std.specs.Results.{Cases};
 ghost use Rattle.std.specs.declared.option.Option.the-variants.{Some, None};
 ghost use Rattle.std.specs.Vec.{made};
+ghost use Rattle.ring.specs.Left.{end-of, Reservation-laws};
 ghost use Rattle.ring.specs.Faults.{with-work};
 ghost use Rattle.std.specs.declared.result.Result.the-variants.{Ok, Err};
 ghost use Rattle.disk.specs.Meaning.{Meaning, at, count, answer-of, Flushed};
@@ -14,7 +15,7 @@ ghost use Rattle.ring.specs.Operations.{Writes, Denied};
 ghost use Rattle.ring.specs.Search.{May-search, Cleared, Stopped, May-reserve, Begun, Ended, refusal, admitted};
 ghost use Rattle.ring.specs.declared.fault.Work.the-variants.{Carry};
 ghost use Rattle.record.specs.Sector.{content};
-ghost use Rattle.ring.specs.Ring.{named, known-gap, beyond, top, scanned, foreign-below, recovered, Agrees};
+ghost use Rattle.ring.specs.Ring.{named, known-gap, beyond, top, scanned, foreign-below, recovered, known-end, Agrees};
 use crate::fault::Interrupted;
 use crate::fault::RingFault;
 use crate::fault::RingFaultFromDisk;
@@ -33,6 +34,7 @@ use record::Format;
 use record::LAST_SEQUENCE;
 use record::Rank;
 use record::Record;
+use record::Sequence;
 use record::classify;
 use record::encode;
 
@@ -70,6 +72,14 @@ fn scan<D: Disk>(disk: &D, format: Format) -> Result<Known, RingFault>
     Ok(known)
 }
 
+// The most writes and flushes of one reservation: seven carries and the reservation itself, two for each.
+pub fn most_operations() -> u64
+    ensures value { λ r. ⌜ r ≡ 16 ⌝ }
+    ensures laws { λ _. ⌜ Reservation-laws ⌝ }
+{
+    16
+}
+
 impl Ring {
     // Reads all sectors of a disk: the ring as they have it, or why there is none.
     pub fn recover<D: Disk>(disk: &D, tag: u8, top: Rank) -> Result<Ring, RingFault>
@@ -89,6 +99,22 @@ impl Ring {
             return Err(RingFault::LiveInGap(gap));
         }
         Ok(ring)
+    }
+
+    // The highest sequence number of any record, 0 without one.
+    pub fn top_record(&self) -> Sequence
+        ensures value { λ r. ⌜ r ≡ now (self .entry) .known .top ⌝ }
+        ensures reads { λ r. ⌜ ((m : Meaning) → Agrees (now (self .entry)) m → r .0 ≡ top (now (self .entry) .format) (m .reading)) ⌝ }
+    {
+        self.known.top
+    }
+
+    // The end of a series: the first rank that is not reserved; 0 without a record, and for a series above 7.
+    pub fn end(&self, series: u8) -> Rank
+        ensures value { λ r. ⌜ r ≡ known-end (now (self .entry) .known) series ⌝ }
+        ensures reads { λ r. ⌜ ((m : Meaning) → Agrees (now (self .entry)) m → series < 8 → r .0 ≡ end-of (now (self .entry) .format) (m .reading) series) ⌝ }
+    {
+        self.known.end(series)
     }
 
     // What the sector after the gap holds.

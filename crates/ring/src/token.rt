@@ -3,7 +3,7 @@ ghost use mathlib.Core.Path.{_≡_};
 ghost use Rattle.std.specs.Results.{Cases};
 ghost use Rattle.disk.specs.Meaning.{answer-of, Flushed};
 ghost use Rattle.disk.specs.declared.fault.Operation.the-variants.{Flush};
-ghost use Rattle.ring.specs.Token.{confirmed};
+ghost use Rattle.ring.specs.Token.{confirmed, drawn};
 ghost use Rattle.ring.specs.declared.fault.Work.the-variants.{Reservation};
 use crate::fault::Interrupted;
 use crate::fault::Work;
@@ -69,6 +69,19 @@ impl Unconfirmed {
         Interrupted {
             work: Work::Reservation(series),
             fault,
+        }
+    }
+}
+
+impl Reserved {
+    // Draws a rank: none that is not below the end.
+    pub fn draw(self, rank: Rank) -> Option<Rank>
+        ensures { λ r. ⌜ r ≡ drawn self rank ⌝ }
+    {
+        if rank.0 < self.end.0 {
+            Some(rank)
+        } else {
+            None
         }
     }
 }
