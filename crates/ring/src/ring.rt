@@ -77,7 +77,7 @@ pub fn most_operations() -> u64
     ensures value { λ r. ⌜ r ≡ 16 ⌝ }
     ensures laws { λ _. ⌜ Reservation-laws ⌝ }
 {
-    16
+    2 * (7 + 1)
 }
 
 impl Ring {
@@ -106,7 +106,7 @@ impl Ring {
         ensures value { λ r. ⌜ r ≡ now (self .entry) .known .top ⌝ }
         ensures reads { λ r. ⌜ ((m : Meaning) → Agrees (now (self .entry)) m → r .0 ≡ top (now (self .entry) .format) (m .reading)) ⌝ }
     {
-        self.known.top
+        Sequence(self.known.top.0)
     }
 
     // The end of a series: the first rank that is not reserved; 0 without a record, and for a series above 7.
