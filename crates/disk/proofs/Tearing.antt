@@ -30,7 +30,7 @@ module _ (mixed old new : List ℕ) where
   mended-fails e (inr (inl same)) = inl (e ∙ sameBytes-decides mixed old .0 same)
   mended-fails e (inr (inr same)) = inr (inl (e ∙ sameBytes-decides mixed new .0 same))
 
-  mended-one-of : (mended mixed old new ≡ old) ⊎ ((mended mixed old new ≡ new) ⊎ (sound (mended mixed old new) ≡ false))
+  pub mended-one-of : (mended mixed old new ≡ old) ⊎ ((mended mixed old new ≡ new) ⊎ (sound (mended mixed old new) ≡ false))
   mended-one-of =
       ⊎-elim (λ e. inl (rw e refl))
       (λ e. mended-fails (rw e refl) (test-fails (sound mixed) (sameBytes mixed old) (sameBytes mixed new) e))

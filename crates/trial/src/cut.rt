@@ -1,9 +1,11 @@
 // One trial: the current fails inside the write of one record.
 ghost use mathlib.Core.Path.{_≡_};
+ghost use lib.Dec.{T};
 ghost use lib.ListN.{length};
+ghost use Rattle.record.specs.declared.sector.Content.the-variants.{Record as Holds};
 ghost use Rattle.disk.specs.Memory.{sectors};
 ghost use Rattle.std.specs.declared.result.Result.the-variants.{Ok, Err};
-ghost use Rattle.trial.specs.Trial.{left-torn, left-faithful, format as the-format, older as the-older, newer as the-newer};
+ghost use Rattle.trial.specs.Trial.{left-torn, left-faithful, One-of-three, format as the-format, older as the-older, newer as the-newer};
 use disk::BadSize;
 use disk::Disk;
 use disk::DiskFault;
@@ -92,7 +94,9 @@ fn on_faithful(disk: &mut FaithfulDisk, flushed: bool, tear: u64) -> Result<Cont
 
 // One trial on a torn disk: what the sector then holds.
 pub fn left_by_torn(flushed: bool, tear: u64) -> Content
-    ensures { λ r. ⌜ r ≡ left-torn flushed tear ⌝ }
+    ensures value { λ r. ⌜ r ≡ left-torn flushed tear ⌝ }
+    ensures one_of_three { λ r. ⌜ One-of-three r ⌝ }
+    ensures settled { λ r. ⌜ (T flushed → r ≡ Holds the-newer) ⌝ }
 {
     let mut memory = [0; 320];
     let Ok(mut disk) = TornDisk::new(&mut memory, SECTORS, SUPPLY) else {
@@ -103,7 +107,8 @@ pub fn left_by_torn(flushed: bool, tear: u64) -> Content
 
 // One trial on a faithful disk.
 pub fn left_by_faithful(flushed: bool, tear: u64) -> Content
-    ensures { λ r. ⌜ r ≡ left-faithful ⌝ }
+    ensures value { λ r. ⌜ r ≡ left-faithful ⌝ }
+    ensures stands { λ r. ⌜ r ≡ Holds the-newer ⌝ }
 {
     let mut memory = [0; 320];
     let Ok(mut disk) = FaithfulDisk::new(&mut memory, SECTORS, SUPPLY) else {

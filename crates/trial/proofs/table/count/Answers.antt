@@ -25,12 +25,14 @@ one-more o ts i n m b d h e count step =
 pub loop-trial-again : need.loop-trial-again
 loop-trial-again c =
     elim (c .if-is-of .came) [
-      then-is-of w ↦
-        (one-more (c .args .outcome) (c .args .trials .now) (c .loop-trial .trial-index) (c .loop-trial .number) (c .if-is-of .number) (c .is-of .result) _ (c .loop-trial-test .taken) (c .is-of .ensures) (c .loop-trial .inv .0) (grind (arith, tells, w .number-is, w .if-is-of .taken)),
-        omega (arith, w .number-is, c .loop-trial .inv .1))
-      | else-is-of w ↦
-        (one-more (c .args .outcome) (c .args .trials .now) (c .loop-trial .trial-index) (c .loop-trial .number) (c .if-is-of .number) (c .is-of .result) _ (c .loop-trial-test .taken) (c .is-of .ensures) (c .loop-trial .inv .0) (grind (arith, tells, w .number-is, w .if-is-of .left)),
-        omega (arith, w .number-is, c .loop-trial .inv .1))
+      | then-is-of w ↦ (
+        one-more (c .args .outcome) (c .args .trials .now) (c .loop-trial .trial-index) (c .loop-trial .number) (c .if-is-of .number) (c .is-of .result) _ (c .loop-trial-test .taken) (c .is-of .ensures) (c .loop-trial .inv .0) (grind (arith, tells, w .number-is, w .if-is-of .taken)),
+        omega (arith, w .number-is, c .loop-trial .inv .1),
+      )
+      | else-is-of w ↦ (
+        one-more (c .args .outcome) (c .args .trials .now) (c .loop-trial .trial-index) (c .loop-trial .number) (c .if-is-of .number) (c .is-of .result) _ (c .loop-trial-test .taken) (c .is-of .ensures) (c .loop-trial .inv .0) (grind (arith, tells, w .number-is, w .if-is-of .left)),
+        omega (arith, w .number-is, c .loop-trial .inv .1),
+      )
     ]
 
 pub returns : need.returns
