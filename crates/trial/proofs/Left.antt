@@ -1,15 +1,20 @@
 -- A torn write leaves one of the two records, or a blank sector.
 use mathlib.Core.Bool.{Bool, true, false}
-use mathlib.Core.List.{List}
+use mathlib.Core.List.{List, map}
 use mathlib.Core.Logic.{_⊎_, inl, inr, ⊎-elim}
 use mathlib.Core.Path.{_≡_, refl, ap, _∙_}
-use Prim.Native.Nat.{ℕ, _%_}
+use Prim.Native.Nat.{ℕ, zero, suc, _+_, _%_}
 use lib.Dec.{T, lit<}
+use Rattle.std.specs.Iters.{counting}
+use Rattle.std.specs.shelf.Lists.{All}
 use Rattle.record.specs.Sector.{sound, content, encoded}
 use Rattle.record.specs.declared.sector.Content.the-variants.{Blank, Record as Holds}
 use Rattle.record.proofs.ReadBack.{read-back}
 use Rattle.disk.specs.Devices.{mixture, torn}
 use Rattle.disk.proofs.Tearing.{mended-one-of}
+use Rattle.trial.specs.Table.{left-by, trial-of}
+use Rattle.trial.specs.declared.table.Device.{Device}
+use Rattle.trial.specs.declared.table.Device.the-variants.{Torn, Faithful}
 use Rattle.trial.specs.Trial.{format, older, newer, left-torn, left-faithful, One-of-three}
 
 reads-older : content format 3 (encoded 1 older) ≡ Holds older
@@ -33,3 +38,13 @@ one-of-three false tear =
 pub settled : (flushed : Bool) (tear : ℕ) → T flushed → left-torn flushed tear ≡ Holds newer
 settled true tear t = reads-newer
 settled false tear t = absurd t
+
+pub one-of-three-by : (device : Device) (flushed : Bool) (tear : ℕ) → One-of-three (left-by device flushed tear)
+one-of-three-by Torn flushed tear = one-of-three flushed tear
+one-of-three-by Faithful flushed tear = inr (inl reads-newer)
+
+pub all-one-of-three :
+    (device : Device) (flushed : Bool) (a n : ℕ) →
+    All (λ t. One-of-three (t .left)) (map (trial-of device flushed) (counting a n))
+all-one-of-three device flushed a zero = tt
+all-one-of-three device flushed a (suc n) = (one-of-three-by device flushed a, all-one-of-three device flushed (a + 1) n)

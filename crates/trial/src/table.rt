@@ -4,6 +4,8 @@ ghost use mathlib.Core.Path.{_≡_};
 ghost use Rattle.std.specs.Iters.{counting};
 ghost use Rattle.std.specs.Of.Vec.{vec-items};
 ghost use Rattle.std.specs.Vec.{made};
+ghost use Rattle.std.specs.shelf.Lists.{All};
+ghost use Rattle.trial.specs.Trial.{One-of-three};
 ghost use Rattle.trial.specs.Table.{trial-of, leaves, how-many};
 use crate::cut::left_by_faithful;
 use crate::cut::left_by_torn;
@@ -57,7 +59,8 @@ impl Outcome {
 
 // The trial of one tear.
 pub fn cut_at(device: Device, flushed: bool, tear: u64) -> Trial
-    ensures { λ r. ⌜ r ≡ trial-of device flushed tear ⌝ }
+    ensures value { λ r. ⌜ r ≡ trial-of device flushed tear ⌝ }
+    ensures one_of_three { λ r. ⌜ One-of-three (r .left) ⌝ }
 {
     let left = match device {
         Device::Torn => left_by_torn(flushed, tear),
@@ -73,7 +76,8 @@ pub fn cut_at(device: Device, flushed: bool, tear: u64) -> Trial
 
 // The trials of all tears, from 0 to 32.
 pub fn trials(heap: Global, device: Device, flushed: bool) -> Result<Vec<Trial>, AllocError>
-    ensures { λ r. ⌜ made r (λ v. vec-items v ≡ map (trial-of device flushed) (counting 0 33)) ⌝ }
+    ensures table { λ r. ⌜ made r (λ v. vec-items v ≡ map (trial-of device flushed) (counting 0 33)) ⌝ }
+    ensures one_of_three { λ r. ⌜ made r (λ v. All (λ t. One-of-three (t .left)) (vec-items v)) ⌝ }
 {
     let mut trials = Vec::new(heap);
     for tear in 0..TEARS {
