@@ -19,6 +19,7 @@ fn print_block(rt: &impl Print, heading: &str, block: &[Trial]) -> io::Result<()
     Ok(())
 }
 
+// Makes the three tables, and prints them with the counts.
 fn main(rt: LibcRuntime) -> io::Result<()> {
     let unflushed = trials(rt.alloc(), Device::Torn, false)?;
     let flushed = trials(rt.alloc(), Device::Torn, true)?;
@@ -42,7 +43,7 @@ fn main(rt: LibcRuntime) -> io::Result<()> {
     print_block(&rt, "Torn disk, cut after the flush.", &flushed)?;
     print_block(
         &rt,
-        "Faithful disk, which keeps each write when it is made, cut before the flush.",
+        "Faithful disk, on which a write lasts as soon as it is made, cut before the flush.",
         &faithful,
     )?;
     println!(rt, "")?;

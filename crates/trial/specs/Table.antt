@@ -29,6 +29,7 @@ holds number Blank = false
 holds number Foreign = false
 holds number (Holds r) = eqb (r .sequence .0) number
 
+-- a sector holds nothing sound
 abbrev pub is-blank : Content → Bool
 is-blank Blank = true
 is-blank Foreign = false

@@ -28,6 +28,7 @@ abbrev pub bytes-left : Bool → ℕ → List ℕ
 bytes-left true tear = encoded 1 newer
 bytes-left false tear = torn tear (encoded 1 older) (encoded 1 newer)
 
+-- the same, as it is read
 abbrev pub left-torn : Bool → ℕ → Content
 left-torn flushed tear = content format 3 (bytes-left flushed tear)
 

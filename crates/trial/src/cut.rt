@@ -21,16 +21,19 @@ use record::Sequence;
 use record::classify;
 use record::encode;
 
-// The disk of the trial: ten sectors of serial records, and supply enough.
+// How many sectors the disk of the trial has.
 const SECTORS: usize = 10;
 
+// Enough writes and flushes for a trial, and again after the cut.
 const SUPPLY: u64 = 100;
 
+// The tag of the serial kind.
 const TAG: u8 = 1;
 
 // The sector that both records name.
 const SECTOR: usize = 3;
 
+// What the records of the trial's disk have in common.
 fn format() -> Format
     ensures { λ r. ⌜ r ≡ the-format ⌝ }
 {
@@ -78,6 +81,7 @@ macro_rules! rewrite_and_cut {
     }};
 }
 
+// The trial on a torn disk of ten sectors.
 fn on_torn(disk: &mut TornDisk, flushed: bool, tear: u64) -> Result<Content, DiskFault>
     requires { ⌜ length (sectors (now (now disk .sectors .memory))) ≡ 10 ⌝ ∗ ⌜ now disk .supply ≡ 100 ⌝ }
     ensures { λ r. ⌜ r ≡ Ok (left-torn flushed tear) ⌝ }
@@ -85,6 +89,7 @@ fn on_torn(disk: &mut TornDisk, flushed: bool, tear: u64) -> Result<Content, Dis
     Ok(rewrite_and_cut!(disk, flushed, tear))
 }
 
+// The trial on a faithful disk of ten sectors.
 fn on_faithful(disk: &mut FaithfulDisk, flushed: bool, tear: u64) -> Result<Content, DiskFault>
     requires { ⌜ length (sectors (now (now disk .sectors .memory))) ≡ 10 ⌝ ∗ ⌜ now disk .supply ≡ 100 ⌝ }
     ensures { λ r. ⌜ r ≡ Ok left-faithful ⌝ }
