@@ -30,7 +30,7 @@ module _ (mixed old new : List ℕ) where
   mended-fails e (inr (inl same)) = inl (e ∙ sameBytes-decides mixed old .0 same)
   mended-fails e (inr (inr same)) = inr (inl (e ∙ sameBytes-decides mixed new .0 same))
 
-  mended-one-of : (mended mixed old new ≡ old) ⊎ ((mended mixed old new ≡ new) ⊎ (sound (mended mixed old new) ≡ false))
+  pub mended-one-of : (mended mixed old new ≡ old) ⊎ ((mended mixed old new ≡ new) ⊎ (sound (mended mixed old new) ≡ false))
   mended-one-of =
       ⊎-elim (λ e. inl (rw e refl))
       (λ e. mended-fails (rw e refl) (test-fails (sound mixed) (sameBytes mixed old) (sameBytes mixed new) e))
@@ -94,7 +94,7 @@ module _ (tear : ℕ) (xs : List (List ℕ)) (h : Held) where
       (⊎-elim (λ p. subst Settled (sym (p .0)) (torn-settled (p .1))) (λ l e. ap (λ (ys : List (List ℕ)). at ys k) (left-past l)))
       (spot k)
 
--- each sector then reads as it was kept, or as it read, or is blank
+-- what is left of a sector is what was kept, what was read, or bytes that are not sound
 left-one-of :
     (tear : ℕ) (h : Option Held) (xs : List (List ℕ)) (k : ℕ) →
     (at (left-sectors tear h xs) k ≡ at (before h xs) k)

@@ -40,7 +40,7 @@ torn-disk d =
       beyond = spare (now (d .sectors .memory));
     }
 
--- the first t bytes of the new content, followed by the rest of the old
+-- the old content, with its first t bytes replaced by those of the new
 abbrev pub mixture : ℕ → List ℕ → List ℕ → List ℕ
 mixture t old new = take t new ++ drop t old
 

@@ -57,6 +57,7 @@ answered value operation sectors supply i =
     (cond (eqb supply 0) (Err (denied Dark operation i)) (Ok value))
     (Err (denied NoSector operation i))
 
+-- the same, of a disk and with nothing to answer
 abbrev pub answer-of : Operation → Meaning → ℕ → Result (Unit {0}) DiskFault
 answer-of operation m i = answered tt operation (count m) (m .supply) i
 
@@ -78,7 +79,8 @@ pub record Flushed (m after : Meaning) : Type 0 where
   pub spends : after .supply + 1 ≡ m .supply
   pub leaves : after .beyond ≡ m .beyond
 
--- a cut: each sector then reads as it was kept, or as it read, or is blank; one of which both were equal stays
+-- a cut: of each sector is left what was kept of it, what was read from it, or bytes that are not sound; where the first two
+-- were the same, nothing else is left
 pub record Cut (m : Meaning) (supply : ℕ) (after : Meaning) : Type 0 where
   pub reads-count : length (after .reading) ≡ length (m .reading)
   pub reads :

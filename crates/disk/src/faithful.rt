@@ -1,4 +1,4 @@
-// A disk that keeps each write when it is made.
+// A disk on which a write lasts as soon as it is made.
 ghost use mathlib.Core.Bool.{cond};
 ghost use mathlib.Core.Path.{_≡_};
 ghost use Rattle.std.specs.Vec.{made};
@@ -16,6 +16,7 @@ use crate::sectors::Sectors;
 use crate::size::BadSize;
 use record::SECTOR_BYTES;
 
+// The memory is both what is read and what is kept.
 #[derive(Drop)]
 pub struct FaithfulDisk<'a> {
     sectors: Sectors<'a>,

@@ -27,3 +27,6 @@ pub use size::MOST_SECTORS;
 pub use torn::Held;
 pub use torn::TornDisk;
 pub use torn::TornDiskDisk;
+
+#[cfg(test)]
+mod tests;

@@ -43,6 +43,7 @@ impl<'a> Sectors<'a> {
         }
     }
 
+    // How many whole sectors the memory has.
     pub(crate) fn count(&self) -> usize
         ensures value { λ r. ⌜ r ≡ length (now (now (self .entry) .memory)) / 32 ⌝ }
         ensures shaped { λ _. ⌜ All (λ sector. length sector ≡ 32) (cut-up (now (now (self .entry) .memory))) ⌝ }
@@ -51,6 +52,7 @@ impl<'a> Sectors<'a> {
         self.memory.len() / SECTOR_BYTES
     }
 
+    // A copy of a sector that is there.
     pub(crate) fn load(&self, sector: usize) -> [u8; SECTOR_BYTES]
         requires { ⌜ sector < length (now (now self .memory)) / 32 ⌝ }
         ensures { λ r. ⌜ r ≡ getD (cut-up (now (now (self .entry) .memory))) sector [] ⌝ }
@@ -61,6 +63,7 @@ impl<'a> Sectors<'a> {
         bytes
     }
 
+    // Writes a sector that is there, and no byte beside it.
     pub(crate) fn store(&mut self, sector: usize, bytes: &[u8; SECTOR_BYTES])
         requires { ⌜ sector < length (now (now self .memory)) / 32 ⌝ }
         ensures sectors { λ _. ⌜ cut-up (now (now (self .exit) .memory)) ≡ set (cut-up (now (now (self .entry) .memory))) sector (now (bytes .entry)) ⌝ }
@@ -70,6 +73,7 @@ impl<'a> Sectors<'a> {
         put(&mut self.memory[SECTOR_BYTES * sector..], bytes);
     }
 
+    // A copy of any sector, or the denial of one that is not there.
     pub(crate) fn read(&self, sector: usize) -> Result<[u8; SECTOR_BYTES], DiskFault>
         ensures { λ r. ⌜ r ≡ found (cut-up (now (now (self .entry) .memory))) sector ⌝ }
     {

@@ -35,7 +35,7 @@ pub struct TornDisk<'a> {
     held: Option<Held>,
 }
 
-// The first bytes of the new content, followed by the rest of the old.
+// The old content, with so many of its first bytes replaced by those of the new.
 fn mix(count: usize, old: &[u8; SECTOR_BYTES], new: &[u8; SECTOR_BYTES]) -> [u8; SECTOR_BYTES]
     requires { ⌜ count ≤ 32 ⌝ }
     ensures { λ r. ⌜ r ≡ mixture count (now (old .entry)) (now (new .entry)) ⌝ }
@@ -45,6 +45,7 @@ fn mix(count: usize, old: &[u8; SECTOR_BYTES], new: &[u8; SECTOR_BYTES]) -> [u8;
     mixed
 }
 
+// Whether two sectors have the same bytes.
 fn are_equal(a: &[u8; SECTOR_BYTES], b: &[u8; SECTOR_BYTES]) -> bool
     ensures { λ r. ⌜ r ≡ sameBytes (now (a .entry)) (now (b .entry)) ⌝ }
 {

@@ -10,7 +10,7 @@ use record::Identifier;
 use record::Rank;
 use record::Reading;
 
-// A kind of identifier. Asking it changes nothing, and it tells the same each time.
+// A kind of identifier. It is only asked, and tells the same each time.
 pub trait Kind {
     // The number by which a record names its kind.
     ghost tag: { Self → ℕ };
@@ -21,7 +21,7 @@ pub trait Kind {
     // How many ranks a reservation takes.
     ghost block: { Self → ℕ };
 
-    // The least rank that a reading allows; an unlawful reading has none.
+    // From which rank on a reading lets identifiers be given; none where the reading is not lawful.
     ghost floor: { Self → Reading → Option Rank };
 
     // The identifier of a rank in a series.
@@ -38,7 +38,7 @@ pub trait Kind {
 
     law block_most: { (k : Self) → block k ≤ 2 ^ 28 };
 
-    // Within a series, of 0 to 7, a greater rank up to the top has a greater identifier.
+    // In each of the series 0 to 7 identifiers rise with the rank, as far as the top.
     law rising: { (k : Self) (s : ℕ) (a b : Rank) → s < 8 → a .0 < b .0 → b .0 ≤ top k .0 → identifier k s a .0 < identifier k s b .0 };
 
     // The tag.

@@ -11,6 +11,7 @@ use lib.Dec.{eqb}
 unfoldable pub shift : ℕ → ℕ
 shift r = cond (eqb (r % 2) 1) (bitXor (r / 2) 0xEDB88320) (r / 2)
 
+-- so many bits leave, one after the other
 unfoldable pub shifts : ℕ → ℕ → ℕ
 shifts zero r = r
 shifts (suc k) r = shifts k (shift r)
@@ -19,6 +20,7 @@ shifts (suc k) r = shifts k (shift r)
 unfoldable pub feed : ℕ → ℕ → ℕ
 feed r b = shifts 8 (bitXor r b)
 
+-- the register after all bytes, in their order
 unfoldable pub register : ℕ → List ℕ → ℕ
 register r [] = r
 register r (b ∷ bs) = register (feed r b) bs

@@ -35,7 +35,7 @@ bytes-at at count s = take count (drop at s)
 unfoldable pub sound : List ℕ → Bool
 sound s = eqb (crc (take 28 s)) (little (drop 28 s))
 
--- byte 0 is the tag, byte 1 the series; bytes 4 to 11 are the sequence number and 12 to 19 the end; bytes 2, 3 and 20 to 27 are to be zero
+-- tag and series stand in bytes 0 and 1, the sequence number in 4 to 11, the end in 12 to 19; bytes 2 and 3 and 20 to 27 have to be zero
 unfoldable pub parts : List ℕ → Parts
 parts s =
     record {
@@ -53,7 +53,7 @@ parts s =
 abbrev pub names : ℕ → ℕ → ℕ → Bool
 names n number i = ltb 0 n && eqb (number % n) i
 
--- the series is 0 to 7, the sequence number 1 to 2^62 - 1, the end 1 to the kind's top + 1, and the number names the sector
+-- a series below 8, a sequence number from 1 to 2^62 - 1 that names the sector, an end from 1 to one above the top of the kind
 abbrev pub lawful : Format → ℕ → Record → Bool
 lawful f i r =
     ltb (r .series) 8

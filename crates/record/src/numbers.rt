@@ -1,6 +1,6 @@
 // The numbers of the server, each a type of its own, so that none is passed for another.
 
-// The place of an identifier in its series, counted from 0.
+// Where an identifier stands in its series; the first has rank 0.
 #[derive(Clone, Copy, PartialEq, Eq, PartialOrd, Ord, Debug)]
 pub struct Rank(pub u64);
 

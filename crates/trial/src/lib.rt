@@ -1,113 +1,18 @@
-// A trial: the current fails inside the write of one record.
-ghost use mathlib.Core.Path.{_≡_};
-ghost use lib.ListN.{length};
-ghost use Rattle.disk.specs.Memory.{sectors};
-ghost use Rattle.std.specs.declared.result.Result.the-variants.{Ok, Err};
-ghost use Rattle.trial.specs.Trial.{left-torn, left-faithful, format as the-format, older as the-older, newer as the-newer};
-use disk::BadSize;
-use disk::Disk;
-use disk::DiskFault;
-use disk::FaithfulDisk;
-use disk::FaithfulDiskDisk;
-use disk::TornDisk;
-use disk::TornDiskDisk;
-use record::Content;
-use record::Format;
-use record::Rank;
-use record::Record;
-use record::Sequence;
-use record::classify;
-use record::encode;
+// A trial of a disk: the current fails inside the write of one record, at every byte of it.
+mod cut;
+mod table;
 
-// The disk of the trial: ten sectors of serial records, and supply enough.
-const SECTORS: usize = 10;
+pub use cut::left_by_faithful;
+pub use cut::left_by_torn;
+pub use cut::newer;
+pub use cut::older;
+pub use table::Device;
+pub use table::Outcome;
+pub use table::Trial;
+pub use table::TrialDisplay;
+pub use table::count;
+pub use table::cut_at;
+pub use table::trials;
 
-const SUPPLY: u64 = 100;
-
-const TAG: u8 = 1;
-
-// The sector that both records name.
-const SECTOR: usize = 3;
-
-fn format() -> Format
-    ensures { λ r. ⌜ r ≡ the-format ⌝ }
-{
-    Format {
-        tag: TAG,
-        top: Rank(999_999_998),
-        sectors: SECTORS,
-    }
-}
-
-// Record 3 of series 2: the ranks below 200 are reserved.
-pub fn older() -> Record
-    ensures { λ r. ⌜ r ≡ the-older ⌝ }
-{
-    Record {
-        series: 2,
-        sequence: Sequence(3),
-        end: Rank(200),
-    }
-}
-
-// Record 13 of the same series: the ranks below 300 are reserved.
-pub fn newer() -> Record
-    ensures { λ r. ⌜ r ≡ the-newer ⌝ }
-{
-    Record {
-        series: 2,
-        sequence: Sequence(13),
-        end: Rank(300),
-    }
-}
-
-// The steps of a trial on any disk: the older record is written and flushed, the newer one is written over it, and flushed
-// too if asked; then the current fails, and the sector is read.
-macro_rules! rewrite_and_cut {
-    ($disk:expr, $flushed:expr, $tear:expr) => {{
-        $disk.write(SECTOR, &encode(TAG, older()))?;
-        $disk.flush(SECTOR)?;
-        $disk.write(SECTOR, &encode(TAG, newer()))?;
-        if $flushed {
-            $disk.flush(SECTOR)?;
-        }
-        $disk.cut($tear, SUPPLY);
-        classify(format(), SECTOR, &$disk.read(SECTOR)?)
-    }};
-}
-
-fn on_torn(disk: &mut TornDisk, flushed: bool, tear: u64) -> Result<Content, DiskFault>
-    requires { ⌜ length (sectors (now (now disk .sectors .memory))) ≡ 10 ⌝ ∗ ⌜ now disk .supply ≡ 100 ⌝ }
-    ensures { λ r. ⌜ r ≡ Ok (left-torn flushed tear) ⌝ }
-{
-    Ok(rewrite_and_cut!(disk, flushed, tear))
-}
-
-fn on_faithful(disk: &mut FaithfulDisk, flushed: bool, tear: u64) -> Result<Content, DiskFault>
-    requires { ⌜ length (sectors (now (now disk .sectors .memory))) ≡ 10 ⌝ ∗ ⌜ now disk .supply ≡ 100 ⌝ }
-    ensures { λ r. ⌜ r ≡ Ok left-faithful ⌝ }
-{
-    Ok(rewrite_and_cut!(disk, flushed, tear))
-}
-
-// One trial on a torn disk: what the sector then holds.
-pub fn left_by_torn(flushed: bool, tear: u64) -> Content
-    ensures { λ r. ⌜ r ≡ left-torn flushed tear ⌝ }
-{
-    let mut memory = [0; 320];
-    let Ok(mut disk) = TornDisk::new(&mut memory, SECTORS, SUPPLY) else {
-        unreachable()
-    };
-    on_torn(&mut disk, flushed, tear).unwrap()
-}
-
-// One trial on a faithful disk.
-pub fn left_by_faithful(flushed: bool, tear: u64) -> Content
-    ensures { λ r. ⌜ r ≡ left-faithful ⌝ }
-{
-    let mut memory = [0; 320];
-    let Ok(mut disk) = FaithfulDisk::new(&mut memory, SECTORS, SUPPLY) else {
-        unreachable()
-    };
-    on_faithful(&mut disk, flushed, tear).unwrap()
-}
+#[cfg(test)]
+mod tests;
