@@ -23,11 +23,19 @@ use Rattle.record.specs.declared.sector.Format.{Format}
 use Rattle.record.specs.declared.sector.Record.{Record}
 use Rattle.disk.specs.Meaning.{Meaning, at, count, found}
 use Rattle.disk.specs.declared.fault.DiskFault.{DiskFault}
-use Rattle.ring.specs.Ring.{record-in, slot, number-in, top-below, top, none, live-of, live-in, newer, live-below, live, known, known-below, met, is-foreign, Native, first-of, foreign-below, scanned}
+use Rattle.ring.specs.Ring.{record-in, slot, number-in, top-below, top, none, live-of, live-in, newer, live-below, live, known, met, is-foreign, Native, first-of, foreign-below, scanned}
 use Rattle.ring.specs.declared.fault.RingFault.the-variants.{Foreign as Foreign′}
 use Rattle.ring.specs.declared.known.Known.{Known}
 use Rattle.ring.specs.declared.known.Live.{Live}
 use Rattle.ring.proofs.Slots.{Placed, placed, slot-holds}
+
+-- what there is to know of the first n sectors
+abbrev pub known-below : Format → List (List ℕ) → ℕ → Known
+known-below f reading n =
+    record {
+      top = record { 0 = top-below f reading n };
+      lives = map (λ s. live-below f reading s n) (counting 0 8);
+    }
 
 -- a read of a sector that is there
 pub found-at : (reading : List (List ℕ)) (i : ℕ) (bytes : List ℕ) → i < length reading → Ok bytes ≡ found reading i → bytes ≡ at reading i

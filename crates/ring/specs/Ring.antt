@@ -164,14 +164,6 @@ abbrev pub next-known : Known → ℕ → Rank → Record
 next-known k s end =
     record { series = s; sequence = record { 0 = min (k .top .0 + 1) (2 ^ 64 - 1) }; end = end }
 
--- the same of the first n sectors
-abbrev pub known-below : Format → List (List ℕ) → ℕ → Known
-known-below f reading n =
-    record {
-      top = record { 0 = top-below f reading n };
-      lives = map (λ s. live-below f reading s n) (counting 0 8);
-    }
-
 -- the live record of a series among eight
 abbrev pub live-among : List Live → ℕ → Live
 live-among lives s = getD lives s none
