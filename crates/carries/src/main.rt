@@ -55,7 +55,7 @@ fn print_answer(rt: &LibcRuntime, answer: Result<Reserved, RingFault>) -> io::Re
     match answer {
         Ok(reserved) => {
             let series = reserved.series;
-            print!(rt, "series {series} has reserved                 ")
+            print!(rt, "series {series} has reserved                     ")
         }
         Err(RingFault::Interrupted(stopped)) => {
             let operation = operation_name(stopped.fault.operation);
