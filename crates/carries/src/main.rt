@@ -1,5 +1,7 @@
 // A ring that closes, and its carries: seven live records are in the way of one reservation, and the current fails at each
 // of its sixteen writes and flushes in turn.
+#![tactic(auto)]
+
 use disk::{Disk, FaithfulDisk, Operation, TornDisk};
 use record::Rank;
 use ring::{Reserved, Ring, RingFault, Work};

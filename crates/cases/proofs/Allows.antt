@@ -248,8 +248,8 @@ module _ (make : Make) (k : Numbering) (u : Up) (m : Meaning) (s : ℕ) (agrees 
 given_allowed :
     (make : Make) (k : Numbering) (state : State) (m : Meaning) (s reading : ℕ) → Level m → WellState state m →
     Gave k state m s (record { 0 = reading }) (given_by make k state m s reading).answer (given_by make k state m s reading).state (given_by make k state m s reading).disk × (Level (given_by make k state m s reading).disk × WellState (given_by make k state m s reading).state (given_by make k state m s reading).disk)
-given_allowed make k (Down fault) m s reading level well = ((refl, refl, refl), (level, tt))
-given_allowed make k (Awake u) m s reading level well =
+given_allowed make k (Down fault) m s reading flat well = ((refl, refl, refl), (flat, tt))
+given_allowed make k (Awake u) m s reading flat well =
     decided_allowed make k u m s well.0 well.1 (decision k u s (record { 0 = reading }))
 
 -- the two kinds have tags and tops that fit
@@ -357,8 +357,8 @@ asked_well (has_ended memory) c line w = tt
 
 -- a line by its number
 numbered : (b : Bool) (v : View) (line : List ℕ) (done : Done) → Steps v line done.answer done.after → Well done.after → Well v → MatchBool b (Steps v line (cond b done (denied TooMany v)).answer (cond b done (denied TooMany v)).after) (Comes (denied TooMany v) (cond b done (denied TooMany v)).answer (cond b done (denied TooMany v)).after) × Well (cond b done (denied TooMany v)).after
-numbered true v line done steps well w = (steps, well)
-numbered false v line done steps well w = (record { answers = refl; goes = refl }, w)
+numbered true v line done took well w = (took, well)
+numbered false v line done took well w = (record { answers = refl; goes = refl }, w)
 
 finished_well : (r : Result Answer Denial) (v : View) → Well v → Well (finished r v)
 finished_well (Ok answer) v w = w

@@ -1,4 +1,6 @@
 // Worked cases, shown to follow from the rules themselves: no code is run.
+#![tactic(auto)]
+
 ghost use Rattle.std.specs.Prelude.{◌≡◌, length};
 ghost use Rattle.cases.specs.Allowed.{RunsAreAllowed};
 ghost use Rattle.cases.specs.Table.{table, EveryCaseHolds};

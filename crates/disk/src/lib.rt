@@ -1,4 +1,6 @@
 // A disk of sectors whose power may fail, and two such disks over memory handed in.
+#![tactic(auto)]
+
 mod disk;
 mod faithful;
 mod fault;

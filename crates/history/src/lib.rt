@@ -1,4 +1,6 @@
 // Any list of calls on a server, and what none of them can make false.
+#![tactic(auto)]
+
 mod calls;
 
 pub use calls::{Answer, Call, Outcome, make, run, serve};

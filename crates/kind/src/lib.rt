@@ -1,4 +1,6 @@
 // Kinds of identifier: what each makes of a clock reading, a series and a rank.
+#![tactic(auto)]
+
 mod fault;
 mod meaning;
 mod serial;

@@ -1,4 +1,6 @@
 // A short history of a server on the torn disk: requests, a flush that goes dark, and cuts that tear a reservation or leave it.
+#![tactic(auto)]
+
 use disk::{Disk, TornDisk};
 use history::{Answer, Call, make};
 use kind::{Kind, SerialKind};

@@ -1,4 +1,6 @@
 // Places a power cut inside the write of one record, at every byte of it, and prints what the sector then reads as.
+#![tactic(auto)]
+
 use std::io;
 use trial::{Device, Outcome, Trial, count, newer, older, trials};
 

@@ -65,11 +65,3 @@ pub fn check_value() -> u32
 {
     crc32(b"123456789")
 }
-
-// The checksum under a name of its own for programs in C or Rust: a pointer and a length.
-#[unsafe(no_mangle)]
-pub extern "C" fn record_crc32(bytes: &[u8]) -> u32
-    ensures { result ≡ crc bytes.now }
-{
-    crc32(bytes)
-}

@@ -1,4 +1,6 @@
 // A reservation's record on the disk: its numbers, its checksum and its 32 bytes.
+#![tactic(auto)]
+
 mod crc;
 mod numbers;
 mod sector;

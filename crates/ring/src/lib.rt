@@ -1,4 +1,6 @@
 // The ring log: records of reservations, in the sectors that their numbers name.
+#![tactic(auto)]
+
 mod fault;
 mod known;
 mod ring;

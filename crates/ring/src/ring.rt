@@ -35,8 +35,8 @@ fn sector_of(number: u64, sectors: usize) -> usize
 
 // One pass over all sectors: what there is to know of them, or the lowest foreign one.
 fn scan<D: Disk>(disk: &D, format: Format) -> Result<Known, RingFault>
-    requires { format.sectors ≡ count (meaning disk.now) }
-    ensures { result ≡ scanned format (meaning disk.now).reading (foreign_below format (meaning disk.now).reading (count (meaning disk.now))) }
+    requires { format.sectors ≡ count (D.meaning disk.now) }
+    ensures { result ≡ scanned format (D.meaning disk.now).reading (foreign_below format (D.meaning disk.now).reading (count (D.meaning disk.now))) }
 {
     let mut known = Known::nothing();
     for sector in 0..format.sectors {
@@ -62,8 +62,8 @@ pub fn most_operations() -> u64
 impl Ring {
     // Reads all sectors of a disk: the ring as they have it, or why there is none.
     pub fn recover<D: Disk>(disk: &D, tag: u8, top: Rank) -> Result<Ring, RingFault>
-        ensures answer { result ≡ recovered (record { tag = tag; top = top; sectors = count (meaning disk.now) }) (meaning disk.now).reading }
-        ensures agrees { top.0 < 2 ^ 53 → IfOk result (λ ring. Agrees ring (meaning disk.now)) }
+        ensures answer { result ≡ recovered (record { tag = tag; top = top; sectors = count (D.meaning disk.now) }) (D.meaning disk.now).reading }
+        ensures agrees { top.0 < 2 ^ 53 → IfOk result (λ ring. Agrees ring (D.meaning disk.now)) }
     {
         let sectors = disk.sectors();
         if sectors < LEAST_SECTORS || MOST_SECTORS < sectors {
@@ -98,7 +98,7 @@ impl Ring {
 
     // What the sector after the gap holds.
     pub(crate) fn look<D: Disk>(&self, disk: &D) -> Result<Content, DiskFault>
-        ensures { Agrees self.now (meaning disk.now) → top self.now.format (meaning disk.now).reading < 2 ^ 62 → result ≡ Ok (content self.now.format (beyond self.now.format (meaning disk.now).reading) (at (meaning disk.now).reading (beyond self.now.format (meaning disk.now).reading))) }
+        ensures { Agrees self.now (D.meaning disk.now) → top self.now.format (D.meaning disk.now).reading < 2 ^ 62 → result ≡ Ok (content self.now.format (beyond self.now.format (D.meaning disk.now).reading) (at (D.meaning disk.now).reading (beyond self.now.format (D.meaning disk.now).reading))) }
     {
         let sector = sector_of(self.known.top.0.saturating_add(2), self.format.sectors);
         let bytes = disk.read(sector)?;
@@ -122,8 +122,8 @@ impl Ring {
         end: Rank,
     ) -> Result<(), Interrupted>
         requires { (series < 8) × (gap ≡ known_gap self.old) }
-        ensures answer { result ≡ with_work work (answer_of Write (meaning disk.old) (known_gap self.old)) }
-        ensures effect { MatchResult result (λ _. Writes self.old (meaning disk.old) series end self.new (meaning disk.new)) (λ _. (meaning disk.new ≡ meaning disk.old) × (self.new ≡ self.old)) }
+        ensures answer { result ≡ with_work work (answer_of Write (D.meaning disk.old) (known_gap self.old)) }
+        ensures effect { MatchResult result (λ _. Writes self.old (D.meaning disk.old) series end self.new (D.meaning disk.new)) (λ _. (D.meaning disk.new ≡ D.meaning disk.old) × (self.new ≡ self.old)) }
     {
         let record = self.known.next(series, end);
         during(work, disk.write(gap, &encode(self.format.tag, record)))?;
@@ -135,7 +135,7 @@ impl Ring {
     fn carry<D: Disk>(&mut self, disk: &mut D, record: Record) -> Result<(), Interrupted>
         requires { «record».series < 8 }
         ensures work { IfErr result (λ stopped. stopped.work ≡ Carry «record».series) }
-        ensures effect { MatchResult result (λ _. (between : Meaning) × Writes self.old (meaning disk.old) «record».series «record».end self.new between × Flushed between (meaning disk.new)) (λ stopped. Denied self.old (meaning disk.old) «record».series «record».end stopped.fault self.new (meaning disk.new)) }
+        ensures effect { MatchResult result (λ _. (between : Meaning) × Writes self.old (D.meaning disk.old) «record».series «record».end self.new between × Flushed between (D.meaning disk.new)) (λ stopped. Denied self.old (D.meaning disk.old) «record».series «record».end stopped.fault self.new (D.meaning disk.new)) }
     {
         let work = Work::Carry(record.series);
         let gap = self.gap();
@@ -148,7 +148,7 @@ impl Ring {
     fn clear_the_way<D: Disk>(&mut self, disk: &mut D, series: u8) -> Result<usize, RingFault>
         requires { self.old.known.top.0 + 8 < 2 ^ 62 }
         ensures gap { IfOk result (λ gap. gap ≡ known_gap self.new) }
-        ensures search { MaySearch self.old (meaning disk.old) series → MatchResult result (λ _. Cleared self.old.format series (meaning disk.old) self.new (meaning disk.new)) (λ fault. Stopped self.old.format series (meaning disk.old) fault self.new (meaning disk.new)) }
+        ensures search { MaySearch self.old (D.meaning disk.old) series → MatchResult result (λ _. Cleared self.old.format series (D.meaning disk.old) self.new (D.meaning disk.new)) (λ fault. Stopped self.old.format series (D.meaning disk.old) fault self.new (D.meaning disk.new)) }
     {
         let start = self.known.top;
         let gap = loop {
@@ -164,7 +164,7 @@ impl Ring {
     // Clears the way and writes the reservation, which is then to be confirmed or given up.
     fn begin<D: Disk>(&mut self, disk: &mut D, series: u8, end: Rank) -> Result<Written, RingFault>
         requires { (series < 8) × (self.old.known.top.0 + 8 < 2 ^ 62) }
-        ensures { MayReserve self.old (meaning disk.old) series end → MatchResult result (λ written. Begun self.old.format series end (meaning disk.old) written self.new (meaning disk.new)) (λ fault. Ended self.old.format series end (meaning disk.old) (Err fault) self.new (meaning disk.new)) }
+        ensures { MayReserve self.old (D.meaning disk.old) series end → MatchResult result (λ written. Begun self.old.format series end (D.meaning disk.old) written self.new (D.meaning disk.new)) (λ fault. Ended self.old.format series end (D.meaning disk.old) (Err fault) self.new (D.meaning disk.new)) }
     {
         let gap = self.clear_the_way(disk, series)?;
         self.write_record(disk, gap, Work::Reservation(series), series, end)?;
@@ -198,8 +198,8 @@ impl Ring {
         series: u8,
         end: Rank,
     ) -> Result<Reserved, RingFault>
-        ensures refused { (fault : RingFault) → refusal self.old.format self.old.known.top.0 series end ≡ Some fault → (result ≡ Err fault) × (self.new ≡ self.old) × (meaning disk.new ≡ meaning disk.old) }
-        ensures reserves { Agrees self.old (meaning disk.old) → refusal self.old.format self.old.known.top.0 series end ≡ None → Ended self.old.format series end (meaning disk.old) result self.new (meaning disk.new) }
+        ensures refused { (fault : RingFault) → refusal self.old.format self.old.known.top.0 series end ≡ Some fault → (result ≡ Err fault) × (self.new ≡ self.old) × (D.meaning disk.new ≡ D.meaning disk.old) }
+        ensures reserves { Agrees self.old (D.meaning disk.old) → refusal self.old.format self.old.known.top.0 series end ≡ None → Ended self.old.format series end (D.meaning disk.old) result self.new (D.meaning disk.new) }
     {
         self.admit(series, end)?;
         let written = self.begin(disk, series, end)?;

@@ -33,8 +33,8 @@ pub struct Reserved {
 impl Written {
     // Flushes the reservation. Where the disk denies that, the reservation comes back, to be given up.
     pub(crate) fn confirm<D: Disk>(self, disk: &mut D) -> Result<Reserved, Unconfirmed>
-        ensures answer { result ≡ confirmed self (answer_of Flush (meaning disk.old) self.sector) }
-        ensures effect { MatchResult result (λ _. Flushed (meaning disk.old) (meaning disk.new)) (λ _. meaning disk.new ≡ meaning disk.old) }
+        ensures answer { result ≡ confirmed self (answer_of Flush (D.meaning disk.old) self.sector) }
+        ensures effect { MatchResult result (λ _. Flushed (D.meaning disk.old) (D.meaning disk.new)) (λ _. D.meaning disk.new ≡ D.meaning disk.old) }
     {
         match disk.flush(self.sector) {
             Ok(()) => {

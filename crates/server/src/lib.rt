@@ -1,4 +1,6 @@
 // The server: identifiers of eight series, out of blocks that are reserved in the ring.
+#![tactic(auto)]
+
 mod fault;
 mod server;
 mod state;

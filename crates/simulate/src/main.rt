@@ -1,4 +1,6 @@
 // Reads request lines from standard input, and prints what the simulator makes of each.
+#![tactic(auto)]
+
 ghost use Rattle.std.specs.Prelude.{◌≤◌, length, IfOk};
 
 use simulator::{PRINT_BYTES, Partial, Simulator};

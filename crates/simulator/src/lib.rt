@@ -1,4 +1,6 @@
 // A simulator of the server: a request line in, a print line out, over disk memory handed in.
+#![tactic(auto)]
+
 mod answer;
 mod any_kind;
 mod device;

@@ -1,4 +1,6 @@
 // A trial of a disk: the current fails inside the write of one record, at every byte of it.
+#![tactic(auto)]
+
 mod cut;
 mod table;
 

@@ -1,4 +1,6 @@
 // That the promise over all histories speaks of something: disks without records, kinds that keep the laws, and a history.
+#![tactic(auto)]
+
 mod blank;
 mod history;
 mod kinds;

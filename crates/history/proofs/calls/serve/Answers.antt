@@ -24,7 +24,7 @@ loop-call-preserved g c =
           serving_step _ _ start past (take i calls) (take (i + 1) calls) (vec_items c.loop-call.answers) (vec_items c.push.new.self) _ _ (get_or calls i no_call) c.make.result _ _
           (ap (numbering g.K.Kind.tag g.K.Kind.top g.K.Kind.block g.K.Kind.floor g.K.Kind.identifier) c.loop-call.invariant.0)
           (take_more calls i no_call taken)
-          c.in-ok-push.ensures.items
+          c.in_ok-push.ensures.items
           c.make.ensures.extends
           (c.loop-call.invariant.1 start past reached),
     )
@@ -52,16 +52,16 @@ returns g c =
           (serving_all _ start past (take i calls) calls (vec_items c.loop-call.answers) _ _ (take_all i calls (omega arith)) (c.loop-call.invariant.1 start past reached));
     }
 
-pub returns-in-err-push : goal.returns-in-err-push
+pub returns-in_err-push : goal.returns-in_err-push
 unfolding no_call
-returns-in-err-push g c =
+returns-in_err-push g c =
     let calls = c.args.calls.now in
     let i = c.loop-call.call-index in
     let taken : i < length calls = omega arith in
     record {
       kind = c.make.ensures.kind ∙ c.loop-call.invariant.0;
       promise = λ start past reached.
-          MatchResult-from_err c.from-residual.result _ _ c.from-residual.ensures.0
+          MatchResult-from_err c.from_residual.result _ _ c.from_residual.ensures.0
           (λ y.
           record {
             count = i + 1;

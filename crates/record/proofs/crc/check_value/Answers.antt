@@ -8,4 +8,4 @@ unfolding crc register feed shifts shift
 check_values = (refl, refl)
 
 pub returns : goal.returns
-returns c = record { value = c.crc32.ensures ∙ check_values.0; of-the-definition = check_values }
+returns c = record { value = c.crc32.ensures ∙ check_values.0; of_the_definition = check_values }

@@ -3,13 +3,13 @@ use Rattle.std.proofs.Common.{rules}
 use Rattle.record.specs.Sector.{content}
 use Rattle.record.proofs.sector.classify.Goals as goal
 
-pub returns-then-not-is-sound : goal.returns-then-not-is-sound
+pub returns-then-not-is_sound : goal.returns-then-not-is_sound
 unfolding content
-returns-then-not-is-sound c = search rules
+returns-then-not-is_sound c = search rules
 
-pub returns-then-is-lawful : goal.returns-then-is-lawful
+pub returns-then-is_lawful : goal.returns-then-is_lawful
 unfolding content
-returns-then-is-lawful c = search rules
+returns-then-is_lawful c = search rules
 
 pub returns-else-tag-format : goal.returns-else-tag-format
 unfolding content

@@ -8,7 +8,7 @@ pub returns : goal.returns
 unfolding sound
 returns c =
     let s = c.args.sector.now in
-    let tail : c.from-le-bytes-checksum.result ≡ little (drop 28 s) =
+    let tail : c.from_le_bytes-checksum.result ≡ little (drop 28 s) =
     omega (arith, little-at s 28, little-at s 29, little-at s 30, little-at s 31, little_end s 32 (omega arith)) in
     let sum = c.crc32.ensures in
     cc

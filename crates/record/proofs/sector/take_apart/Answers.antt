@@ -8,8 +8,8 @@ pub returns : goal.returns
 unfolding parts
 returns c =
     let s = c.args.sector.now in
-    let sequence : c.number-at.result ≡ little (bytes_at 4 8 s) = c.number-at.ensures ∙ ap little (part_of_rest s 8 0 4 refl) in
-    let end : c.number-at-2.result ≡ little (bytes_at 12 8 s) = c.number-at-2.ensures ∙ ap little (part_of_rest s 8 8 12 refl) in
-    let spare : c.number-at-3.result ≡ little (bytes_at 20 8 s) = c.number-at-3.ensures ∙ ap little (part_of_rest s 8 16 20 refl) in
+    let sequence : c.number_at.result ≡ little (bytes_at 4 8 s) = c.number_at.ensures ∙ ap little (part_of_rest s 8 0 4 refl) in
+    let end : c.number_at-2.result ≡ little (bytes_at 12 8 s) = c.number_at-2.ensures ∙ ap little (part_of_rest s 8 8 12 refl) in
+    let spare : c.number_at-3.result ≡ little (bytes_at 20 8 s) = c.number_at-3.ensures ∙ ap little (part_of_rest s 8 16 20 refl) in
     let zeros = zero_by_number (bytes_at 20 8 s) in
     cc

@@ -11,13 +11,13 @@ loop-sector-init g c = (refl, c.nothing-known.ensures ∙ sym (nothing_below _ _
 
 pub returns-in-Foreign : goal.returns-in-Foreign
 returns-in-Foreign g c =
-    scan_stops _ _ _ c.loop-sector.sector c.requires c.in-ok-bytes.bytes c.loop-sector-test.true c.in-ok-bytes.ensures
+    scan_stops _ _ _ c.loop-sector.sector c.requires c.in_ok-bytes.bytes c.loop-sector-test.true c.in_ok-bytes.ensures
     c.in-Foreign.ensures
     c.loop-sector.invariant.0
 
 pub meet-known-requires : goal.meet-known-requires
 meet-known-requires g c =
-    scan_series _ _ _ c.loop-sector.sector c.requires c.in-ok-bytes.bytes c.loop-sector-test.true c.in-ok-bytes.ensures
+    scan_series _ _ _ c.loop-sector.sector c.requires c.in_ok-bytes.bytes c.loop-sector-test.true c.in_ok-bytes.ensures
     c.in-Record.record
     c.in-Record.ensures
 
@@ -26,13 +26,13 @@ loop-sector-preserved g c =
     elim c.match-classify.branch [
       | in-Blank w ↦
           rw w.known-is
-          (scan_blank _ _ _ c.loop-sector.sector c.requires c.in-ok-bytes.bytes c.loop-sector-test.true c.in-ok-bytes.ensures
+          (scan_blank _ _ _ c.loop-sector.sector c.requires c.in_ok-bytes.bytes c.loop-sector-test.true c.in_ok-bytes.ensures
           c.loop-sector.known
           w.in-Blank.ensures
           c.loop-sector.invariant)
       | in-Record w ↦
           rw w.known-is
-          (scan_record _ _ _ c.loop-sector.sector c.requires c.in-ok-bytes.bytes c.loop-sector-test.true c.in-ok-bytes.ensures
+          (scan_record _ _ _ c.loop-sector.sector c.requires c.in_ok-bytes.bytes c.loop-sector-test.true c.in_ok-bytes.ensures
           c.loop-sector.known w.meet-known.result
           w.in-Record.record
           w.in-Record.ensures

@@ -4,9 +4,9 @@ use Rattle.simulator.specs.Print.{justified}
 use Rattle.simulator.proofs.Justified as columns
 use Rattle.simulator.proofs.print.right_justify.Goals as goal
 
-pub returns-in-default : goal.returns-in-default
-returns-in-default c =
-    let no_columns : length c.args.columns.now ≡ 0 = omega (arith, c.in-default.ensures) in
+pub returns-in_default : goal.returns-in_default
+returns-in_default c =
+    let no_columns : length c.args.columns.now ≡ 0 = omega (arith, c.in_default.ensures) in
     columns.none c.args.columns.now c.args.number no_columns
 
 pub loop-i-init : goal.loop-i-init

@@ -6,7 +6,7 @@ use Rattle.trial.specs.Table.{leaves, how_many}
 use Rattle.trial.specs.declared.table.Outcome.{Outcome}
 use Rattle.trial.specs.declared.table.Trial.{Trial}
 use Rattle.trial.proofs.table.count.Goals as goal
-use Rattle.trial.proofs.table.count.Goals.{then-is-of, else-is-of}
+use Rattle.trial.proofs.table.count.Goals.{then-is_of, else-is_of}
 
 -- one trial more counts if it had the outcome
 one_more :
@@ -18,13 +18,13 @@ one_more o ts i n m b d h e count step =
 
 pub loop-trial-preserved : goal.loop-trial-preserved
 loop-trial-preserved c =
-    elim c.if-is-of.branch [
-      | then-is-of w ↦ (
-        one_more c.args.outcome c.args.trials.now c.loop-trial.trial-index c.loop-trial.number c.if-is-of.number c.is-of.result _ c.loop-trial-test.true c.is-of.ensures c.loop-trial.invariant.0 (grind (arith, nat_tests, w.number-is, w.if-is-of.true)),
+    elim c.if-is_of.branch [
+      | then-is_of w ↦ (
+        one_more c.args.outcome c.args.trials.now c.loop-trial.trial-index c.loop-trial.number c.if-is_of.number c.is_of.result _ c.loop-trial-test.true c.is_of.ensures c.loop-trial.invariant.0 (grind (arith, nat_tests, w.number-is, w.if-is_of.true)),
         omega (arith, w.number-is, c.loop-trial.invariant.1),
       )
-      | else-is-of w ↦ (
-        one_more c.args.outcome c.args.trials.now c.loop-trial.trial-index c.loop-trial.number c.if-is-of.number c.is-of.result _ c.loop-trial-test.true c.is-of.ensures c.loop-trial.invariant.0 (grind (arith, nat_tests, w.number-is, w.if-is-of.false)),
+      | else-is_of w ↦ (
+        one_more c.args.outcome c.args.trials.now c.loop-trial.trial-index c.loop-trial.number c.if-is_of.number c.is_of.result _ c.loop-trial-test.true c.is_of.ensures c.loop-trial.invariant.0 (grind (arith, nat_tests, w.number-is, w.if-is_of.false)),
         omega (arith, w.number-is, c.loop-trial.invariant.1),
       )
     ]

@@ -5,11 +5,11 @@ use Rattle.worked.proofs.blank.blank_faithful.Goals as goal
 
 pub returns : goal.returns
 returns c =
-    let made = c.clear-faithful.ensures in
+    let made = c.clear_faithful.ensures in
     record {
       test = made.test;
       cases =
-          by_test c.clear-faithful.result _ made.test made.cases
+          by_test c.clear_faithful.result _ made.test made.cases
           (λ d e h. blank_disk (length c.args.memory.now) _ _ _ _ e h.0 refl refl h.1 refl)
           (λ e h. h);
     }

@@ -7,11 +7,11 @@ use Rattle.worked.proofs.blank.blank_torn.Goals as goal
 
 pub returns : goal.returns
 returns c =
-    let made = c.clear-torn.ensures in
+    let made = c.clear_torn.ensures in
     record {
       test = made.test;
       cases =
-          by_test c.clear-torn.result _ made.test made.cases
+          by_test c.clear_torn.result _ made.test made.cases
           (λ d e h. (
             blank_disk (length c.args.memory.now) _ _ _ _ e h.0 refl (ap (λ x. before x (sectors d.sectors.memory.now)) h.2) h.1 refl,
             h.2,

@@ -11,5 +11,5 @@ returns c =
       without = cleared_without 10 3 (lit≤ tt) (lit≤ tt);
       reached = reached;
       torn = torn_inside;
-      given = c.last-given.ensures;
+      given = c.last_given.ensures;
     }

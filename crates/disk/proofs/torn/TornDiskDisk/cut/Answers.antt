@@ -6,8 +6,8 @@ use Rattle.disk.proofs.torn.TornDiskDisk.cut.Goals as goal
 pub returns : goal.returns
 returns c =
     record {
-      meaning = cut_by_tear c.args.tear c.args.supply _ c.args.self.now.held _ _ _ _ c.tear-held.ensures.sectors c.tear-held.ensures.spare;
-      memory = c.tear-held.ensures.memory;
-      sectors = c.tear-held.ensures.sectors;
+      meaning = cut_by_tear c.args.tear c.args.supply _ c.args.self.now.held _ _ _ _ c.tear_held.ensures.sectors c.tear_held.ensures.spare;
+      memory = c.tear_held.ensures.memory;
+      sectors = c.tear_held.ensures.sectors;
       holds = refl;
     }

@@ -8,14 +8,14 @@ use Rattle.ring.proofs.ring.Ring.clear_the_way.Goals as goal
 pub loop-content-init : goal.loop-content-init
 loop-content-init g c = (omega arith, λ may. search_begins _ _ _ may)
 
-pub returns-in-err-content : goal.returns-in-err-content
-returns-in-err-content g c =
-    let p = err_from_is_err_and c.from-residual.result c.from-residual.ensures.1 in
+pub returns-in_err-content : goal.returns-in_err-content
+returns-in_err-content g c =
+    let p = err_from_is_err_and c.from_residual.result c.from_residual.ensures.1 in
     record {
       gap = rw p.1 tt;
       search = λ may.
           let search = c.loop-content.invariant.1 may in
-          absurd (ok_not_err (c.in-err-content.ensures search.agrees (search_low _ _ _ _ _ search may.numbers)));
+          absurd (ok_not_err (c.in_err-content.ensures search.agrees (search_low _ _ _ _ _ search may.numbers)));
     }
 
 pub loop-content-smaller : goal.loop-content-smaller
@@ -26,7 +26,7 @@ loop-content-smaller g c =
     (omega (arith, c.requires))
     c.loop-content.invariant.0
     (carries_from _ _ _ _ _ (sym c.in-Some.ensures.value))
-    (ap (λ r. r.known) c.in-ok-carry.ensures.effect.1.1)
+    (ap (λ r. r.known) c.in_ok-carry-in-Some.ensures.effect.1.1)
 
 -- the code carried what the rule asks for
 pub loop-content-preserved : goal.loop-content-preserved
@@ -35,32 +35,32 @@ loop-content-preserved g c = (
       c.args.self.now.known.top.0
       (omega (arith, c.requires))
       c.loop-content.invariant.0
-      (ap (λ r. r.known) c.in-ok-carry.ensures.effect.1.1),
+      (ap (λ r. r.known) c.in_ok-carry-in-Some.ensures.effect.1.1),
   λ may.
       let search = c.loop-content.invariant.1 may in
-      let read = ok_same (c.in-ok-content.ensures search.agrees (search_low _ _ _ _ _ search may.numbers)) in
+      let read = ok_same (c.in_ok-content.ensures search.agrees (search_low _ _ _ _ _ search may.numbers)) in
       let finds = turn_finds _ _ _ _ _ search may.numbers _ _ (ap (λ k. k.top.0) may.agrees.knows) read in
       turn_goes_on _ _ _ _ _ search may.numbers c.in-Some.record (sym finds ∙ sym c.in-Some.ensures.value) _
-      c.in-ok-carry.ensures.effect.0
+      c.in_ok-carry-in-Some.ensures.effect.0
       _
-      c.in-ok-carry.ensures.effect.1
-      c.in-ok-carry.ensures.effect.2,
+      c.in_ok-carry-in-Some.ensures.effect.1
+      c.in_ok-carry-in-Some.ensures.effect.2,
 )
 
-pub returns-in-err-carry : goal.returns-in-err-carry
-returns-in-err-carry g c =
-    let p = err_from_is_err_and c.from-residual-in-err-carry.result c.from-residual-in-err-carry.ensures.1 in
+pub returns-in_err-carry-in-Some : goal.returns-in_err-carry-in-Some
+returns-in_err-carry-in-Some g c =
+    let p = err_from_is_err_and c.from_residual-in_err-carry-in-Some.result c.from_residual-in_err-carry-in-Some.ensures.1 in
     record {
       gap = rw p.1 tt;
       search = λ may.
           let search = c.loop-content.invariant.1 may in
-          let read = ok_same (c.in-ok-content.ensures search.agrees (search_low _ _ _ _ _ search may.numbers)) in
+          let read = ok_same (c.in_ok-content.ensures search.agrees (search_low _ _ _ _ _ search may.numbers)) in
           let finds = turn_finds _ _ _ _ _ search may.numbers _ _ (ap (λ k. k.top.0) may.agrees.knows) read in
           rw (p.1, p.2)
           (turn_stops _ _ _ _ _ search may.numbers c.in-Some.record (sym finds ∙ sym c.in-Some.ensures.value)
-          c.in-err-carry.field-0.0 _ _
-          c.in-err-carry.ensures.work
-          c.in-err-carry.ensures.effect);
+          c.in_err-carry-in-Some.field-0.0 _ _
+          c.in_err-carry-in-Some.ensures.work
+          c.in_err-carry-in-Some.ensures.effect);
     }
 
 pub returns : goal.returns
@@ -69,7 +69,7 @@ returns g c =
       gap = c.gap-gap.ensures;
       search = λ may.
           let search = c.loop-content.invariant.1 may in
-          let read = ok_same (c.in-ok-content.ensures search.agrees (search_low _ _ _ _ _ search may.numbers)) in
+          let read = ok_same (c.in_ok-content.ensures search.agrees (search_low _ _ _ _ _ search may.numbers)) in
           let finds = turn_finds _ _ _ _ _ search may.numbers _ _ (ap (λ k. k.top.0) may.agrees.knows) read in
           turn_ends _ _ _ _ _ search may.numbers (sym finds ∙ sym c.in-None.ensures.value);
     }

@@ -5,21 +5,21 @@ use Rattle.ring.proofs.ring.Ring.reserve.Goals as goal
 pub returns-in-Ok : goal.returns-in-Ok
 returns-in-Ok g c =
     record {
-      refused = λ fault e. absurd (not_refused _ fault c.in-ok-admit.ensures e);
+      refused = λ fault e. absurd (not_refused _ fault c.in_ok-admit.ensures e);
       reserves = λ agrees none.
           let may = may_from _ _ _ _ agrees none in
-          confirm_done _ _ _ _ may _ _ _ (c.in-ok-written.ensures may) _ _ c.in-Ok.ensures.answer c.in-Ok.ensures.effect;
+          confirm_done _ _ _ _ may _ _ _ (c.in_ok-written.ensures may) _ _ c.in-Ok.ensures.answer c.in-Ok.ensures.effect;
     }
 
 pub returns-in-Err : goal.returns-in-Err
 returns-in-Err g c =
     record {
-      refused = λ fault e. absurd (not_refused _ fault c.in-ok-admit.ensures e);
+      refused = λ fault e. absurd (not_refused _ fault c.in_ok-admit.ensures e);
       reserves = λ agrees none.
           let may = may_from _ _ _ _ agrees none in
           rw c.from.ensures
-          (confirm_denied _ _ _ _ may _ _ _ (c.in-ok-written.ensures may) c.in-Err.unconfirmed c.give-up.result _
+          (confirm_denied _ _ _ _ may _ _ _ (c.in_ok-written.ensures may) c.in-Err.unconfirmed c.give_up.result _
           c.in-Err.ensures.answer
           c.in-Err.ensures.effect
-          c.give-up.ensures);
+          c.give_up.ensures);
     }

@@ -11,7 +11,7 @@ returns-in-Ok g c =
           record {
             ring = c.reserve.new.self;
             answer = Ok c.in-Ok.field-0;
-            reserves = reserves_to _ _ _ c.block-end-end.result _ _ _ _ c.block-end-end.ensures c.in-Ok.ensures.refused c.in-Ok.ensures.reserves;
+            reserves = reserves_to _ _ _ c.block_end-end.result _ _ _ _ c.block_end-end.ensures c.in-Ok.ensures.refused c.in-Ok.ensures.reserves;
             has = (refl, refl);
           };
     }
@@ -24,7 +24,7 @@ returns-in-Err g c =
           record {
             ring = c.reserve.new.self;
             answer = Err c.in-Err.fault;
-            reserves = reserves_to _ _ _ c.block-end-end.result _ _ _ _ c.block-end-end.ensures c.in-Err.ensures.refused c.in-Err.ensures.reserves;
+            reserves = reserves_to _ _ _ c.block_end-end.result _ _ _ _ c.block_end-end.ensures c.in-Err.ensures.refused c.in-Err.ensures.reserves;
             has = (ap Err c.from.ensures, c.stop-self.ensures);
           };
     }
