@@ -1,5 +1,5 @@
 //! Prints the CRC-32 of standard input as the proved checksum has it. It is linked with the library that
-//! `rt staticlib record` makes.
+//! `tools/build` makes.
 
 use std::io::{self, Read};
 
