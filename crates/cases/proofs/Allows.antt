@@ -5,7 +5,7 @@ use Rattle.record.specs.Sector.{content}
 use Rattle.record.specs.declared.numbers.Identifier.{Identifier}
 use Rattle.record.specs.declared.numbers.Rank.{Rank}
 use Rattle.record.specs.declared.sector.Format.{Format}
-use Rattle.disk.specs.Meaning.{Meaning, Cut, at, count}
+use Rattle.disk.specs.Meaning.{Meaning, Cut, at}
 use Rattle.disk.specs.declared.fault.Operation.TheVariants.{Write, Flush}
 use Rattle.kind.specs.declared.fault.SettingFault.{SettingFault}
 use Rattle.kind.specs.declared.serial.SerialKind.{SerialKind}
@@ -16,7 +16,7 @@ use Rattle.kind.specs.Serial.{serial_kind_of}
 use Rattle.kind.specs.Time.{lease_of, correction_of, time_kind_of}
 use Rattle.ring.specs.Left.{LawfulReservation}
 use Rattle.ring.specs.Operations.{Op, Went, performed, outcome, dark}
-use Rattle.ring.specs.Ring.{top, known, plan, gap, slot, holds_live, is_foreign, first_of, foreign_below, scanned, settled, Agrees, Step}
+use Rattle.ring.specs.Ring.{known, plan, gap, slot, holds_live, is_foreign, first_of, foreign_below, scanned, settled, Agrees, Step}
 use Rattle.ring.specs.Search.{refusal}
 use Rattle.ring.specs.declared.fault.RingFault.{RingFault}
 use Rattle.ring.specs.declared.fault.RingFault.TheVariants.{Size, Foreign, LiveInGap, Series, End, Exhausted, Disk, Interrupted}

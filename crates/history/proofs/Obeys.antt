@@ -9,7 +9,7 @@ use Rattle.record.specs.declared.sector.Format.{Format}
 use Rattle.disk.specs.Meaning.{Meaning}
 use Rattle.ring.specs.Left.{WithoutRecords}
 use Rattle.ring.specs.Operations.{outcome}
-use Rattle.ring.specs.Ring.{top, plan, known, known_end, Step}
+use Rattle.ring.specs.Ring.{plan, known, known_end, Step}
 use Rattle.ring.specs.Search.{Ended, refusal}
 use Rattle.ring.specs.declared.fault.Interrupted.{Interrupted as Stop}
 use Rattle.ring.specs.declared.fault.RingFault.{RingFault}

@@ -8,11 +8,11 @@ use Rattle.record.specs.declared.sector.Format.{Format}
 use Rattle.disk.specs.Meaning.{Meaning}
 use Rattle.ring.specs.Left.{Recovers, LawfulReservation, ReservedUpTo, Follows, stops, carries}
 use Rattle.ring.specs.Operations.{Went, performed, writes_in}
-use Rattle.ring.specs.Ring.{top, plan, Step, Agrees}
+use Rattle.ring.specs.Ring.{plan, Step, Agrees}
 use Rattle.ring.specs.declared.ring.Ring.{Ring}
 use Rattle.ring.proofs.Leaves.{cut_within, reserved_whole, seven_carries, tops_counted}
 use Rattle.ring.proofs.Starts.{agrees_recovers}
-use Rattle.server.specs.History.{Event, request, cut, latest, end_in, next, rank_of, floor_of, floor_since, dark, wanted, asked, writes, stood, left_standing, too_little, block_to, standing, top_record, one_if_none, reserved_before}
+use Rattle.server.specs.History.{Event, request, latest, end_in, next, rank_of, floor_of, floor_since, dark, wanted, asked, writes, stood, left_standing, too_little, block_to, standing, top_record, one_if_none, reserved_before}
 use Rattle.server.specs.Promise.{LawfulKind, Rising, Ground, goes_dark, went_dark, above_top, run_short, RequestLaws}
 use Rattle.server.specs.Rules.{Numbering, format, with_next}
 use Rattle.server.specs.declared.fault.ServerFault.{ServerFault}

@@ -6,7 +6,7 @@ use Rattle.std.proofs.lemmas.Bool.{cases_eq, eq-eqb, ne_eqb, or_parts, cond-fals
 use Rattle.record.specs.declared.numbers.Rank.{Rank}
 use Rattle.record.specs.declared.numbers.Sequence.{Sequence}
 use Rattle.record.specs.declared.sector.Format.{Format}
-use Rattle.disk.specs.Meaning.{Meaning, count}
+use Rattle.disk.specs.Meaning.{Meaning}
 use Rattle.ring.specs.Left.{Recovers, WithoutRecords, end_of}
 use Rattle.ring.specs.Ring.{top, known, known_end, recovered}
 use Rattle.ring.specs.declared.ring.Ring.{Ring}

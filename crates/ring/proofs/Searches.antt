@@ -12,7 +12,7 @@ use Rattle.disk.specs.declared.fault.DiskFault.{DiskFault}
 use Rattle.disk.specs.declared.fault.Operation.{Operation}
 use Rattle.disk.specs.declared.fault.Operation.TheVariants.{Write, Flush}
 use Rattle.ring.specs.Operations.{Op, put, settle, Went, performed, outcome, Writes}
-use Rattle.ring.specs.Ring.{top, live, gap, beyond, carried, next, with_record, known, live_of, known_gap, next_of, with_noted, reserving, carrying, first_then, plan, left, Agrees, Sized, Free, Native, Step}
+use Rattle.ring.specs.Ring.{top, live, gap, carried, next, with_record, known, live_of, known_gap, next_of, with_noted, reserving, carrying, first_then, plan, left, Agrees, Sized, Free, Native, Step}
 use Rattle.ring.specs.Search.{Searching, Cleared, Stopped, MaySearch}
 use Rattle.ring.specs.declared.fault.RingFault.TheVariants.{Interrupted}
 use Rattle.ring.specs.declared.fault.Work.TheVariants.{Carry}

@@ -10,7 +10,7 @@ use Rattle.record.specs.declared.sector.Record.{Record}
 use Rattle.disk.specs.Meaning.{Meaning, at, Flushed}
 use Rattle.disk.specs.declared.fault.DiskFault.{DiskFault}
 use Rattle.ring.specs.Operations.{Writes, Denied}
-use Rattle.ring.specs.Ring.{top, beyond, carried, carry_of, live_among, live_of, left, noted, next_known, known}
+use Rattle.ring.specs.Ring.{top, beyond, carried, carry_of, live_among, live_of, left, noted, next_known}
 use Rattle.ring.specs.Search.{Searching, Cleared, Stopped}
 use Rattle.ring.specs.declared.fault.RingFault.TheVariants.{Interrupted as Dark}
 use Rattle.ring.specs.declared.fault.Interrupted.{Interrupted}

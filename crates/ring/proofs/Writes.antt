@@ -8,7 +8,6 @@ use Rattle.record.specs.declared.sector.Content.TheVariants.{Record as Holds}
 use Rattle.record.specs.declared.sector.Format.{Format}
 use Rattle.record.specs.declared.sector.Record.{Record}
 use Rattle.record.proofs.ReadBack.{Fit, read_back}
-use Rattle.disk.specs.Meaning.{at}
 use Rattle.ring.specs.Ring.{record_in, slot, top, live_of, live, gap, beyond, is_live, next, with_record, Sized, Free}
 use Rattle.ring.specs.declared.known.Live.{Live}
 use Rattle.ring.proofs.Slots.{Placed, placed, lawful_from, Among, top_above, top_is, live_above, live-held, live_is}
