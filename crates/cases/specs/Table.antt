@@ -1,6 +1,6 @@
 -- Worked cases of the rules, as a table under one statement.
 use Rattle.std.specs.Prelude.{◌≡◌, ℕ, ◌+◌, ◌*◌, List, [], ◌∷◌, ◌++◌, length, replicate, ℤ, pos, negsuc, Some, codes, slice_set}
-use Rattle.std.specs.List.{flat_map, AllByRecursion as All}
+use Rattle.std.specs.List.{flat_map, AllByRecursion}
 use Rattle.record.specs.Crc.{crc}
 use Rattle.record.specs.Sector.{encoded}
 use Rattle.disk.specs.Meaning.{Meaning}
@@ -100,4 +100,4 @@ table =
 
 -- every case of the table holds
 abbrev pub EveryCaseHolds : Type 0
-EveryCaseHolds = All Holds table
+EveryCaseHolds = AllByRecursion Holds table

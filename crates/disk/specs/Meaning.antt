@@ -1,6 +1,6 @@
 -- What a disk means, and what its calls do to the meaning.
 use Rattle.std.specs.Prelude.{◌≡◌, ℕ, ◌+◌, false, cond, ◌⊎◌, List, [], length, Ok, Err, Result, ◌==◌, nat_lt, slice_index_or, slice_set}
-use Rattle.std.specs.List.{AllByRecursion as All}
+use Rattle.std.specs.List.{AllByRecursion}
 use Rattle.record.specs.Sector.{sound}
 use Rattle.disk.specs.declared.fault.Cause.{Cause}
 use Rattle.disk.specs.declared.fault.Cause.TheVariants.{NoSector, Dark}
@@ -26,7 +26,7 @@ count m = length m.reading
 
 -- a disk has sectors of 32 bytes, and keeps as many as are read
 pub record Shaped (m : Meaning) : Type 0 where
-  pub bytes : All (λ sector. length sector ≡ 32) m.reading
+  pub bytes : AllByRecursion (λ sector. length sector ≡ 32) m.reading
   pub keeps : length m.kept ≡ length m.reading
 
 -- the number of a denial: 3 for a sector that is not there, 12 for darkness

@@ -1,6 +1,6 @@
 -- What holds of a series between calls: of its next rank, its end, what was given, and what may be lost.
 use Rattle.std.proofs.Common.{◌≡◌, ℕ, ◌+◌, ◌*◌, ◌<◌, ◌≤◌, min, max, true, false, eqb, List, ◌∷◌, Some, None, Ok, Err, Result, refl, add-mul, one-mul, arith}
-use Rattle.std.specs.List.{AllByRecursion as All}
+use Rattle.std.specs.List.{AllByRecursion}
 use Rattle.std.proofs.ByRecursion.{All-weaker}
 use Rattle.std.proofs.lemmas.Bool.{eq-eqb}
 use Rattle.record.specs.declared.numbers.Identifier.{Identifier}
@@ -24,7 +24,7 @@ pub record Series (k : Numbering) (start : Meaning) (past : List Event) (s end :
   pub inside : next k start s past ≤ end
   pub near : end ≤ next k start s past + k.block
   pub bound : next k start s past ≤ max (after_last k start s past) (floor_since k s past) + loss k (cuts_since s past)
-  pub labelled : All (Label k s (after_last k start s past)) (labels s past)
+  pub labelled : AllByRecursion (Label k s (after_last k start s past)) (labels s past)
   pub counted :
       FloorsZero k →
       (end ≡ min (standing k start s None past * k.block) (k.top.0 + 1))

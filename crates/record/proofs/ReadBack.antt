@@ -1,6 +1,6 @@
 -- A record written and read back gives the same fields.
 use Rattle.std.proofs.Common.{◌≡◌, ℕ, zero, suc, ◌/◌, ◌^◌, ◌<◌, true, replicate, sym, refl, ap, ◌∙◌, arith, lit<}
-use Rattle.std.specs.List.{AllByRecursion as All}
+use Rattle.std.specs.List.{AllByRecursion}
 use Rattle.std.proofs.ByRecursion.{All-append}
 use Rattle.std.proofs.lemmas.Bool.{eq-eqb}
 use Rattle.record.specs.Crc.{crc}
@@ -10,12 +10,12 @@ use Rattle.record.specs.declared.sector.Record.{Record}
 use Rattle.record.proofs.Little.{little_bytes}
 use Rattle.record.proofs.Register.{crc_lt}
 
-bytes_of_fit : (k n : ℕ) → All (λ b. b < 256) (bytes_of k n)
+bytes_of_fit : (k n : ℕ) → AllByRecursion (λ b. b < 256) (bytes_of k n)
 unfolding bytes_of
 bytes_of_fit zero n = tt
 bytes_of_fit (suc k) n = (omega arith, bytes_of_fit k (n / 256))
 
-zeros_fit : All (λ b. b < 256) (replicate 8 0)
+zeros_fit : AllByRecursion (λ b. b < 256) (replicate 8 0)
 zeros_fit =
     (lit< tt, (lit< tt, (lit< tt, (lit< tt, (lit< tt, (lit< tt, (lit< tt, (lit< tt, tt))))))))
 
@@ -35,7 +35,7 @@ pub record Fit (tag : ℕ) (r : Record) : Type 0 where
   pub end_fits : r.end.0 < 2 ^ 64
 
 module _ (tag : ℕ) (r : Record) (fit : Fit tag r) where
-  body_fits : All (λ b. b < 256) (body tag r)
+  body_fits : AllByRecursion (λ b. b < 256) (body tag r)
   unfolding body
   body_fits =
       let numbers =

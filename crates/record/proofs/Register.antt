@@ -1,7 +1,7 @@
 -- The register is linear: eight steps of it are one look into a table of 256 entries.
 use Rattle.std.proofs.Common.{◌≡◌, ℕ, zero, suc, ◌-◌, ◌*◌, ◌/◌, ◌%◌, ◌^◌, ◌<◌, cond, eqb, ◌⊎◌, List, [], ◌∷◌, sym, refl, ap, ◌∙◌, inl, inr, ⊎_elim, arith}
 use lib.Bits.{bit_xor, bit_and, xor_lt, and_mask, xor_add_and, xor_shr, xor_mod, xor_shifted, xor_zero_r, xor_comm, xor_assoc, shifted_half, shifted_even}
-use Rattle.std.specs.List.{AllByRecursion as All}
+use Rattle.std.specs.List.{AllByRecursion}
 use Rattle.std.proofs.lemmas.Nat.{shr_split}
 use Rattle.record.specs.Crc.{shift, shifts, feed, register, crc}
 
@@ -103,12 +103,12 @@ unfolding shifts
 shifts_lt zero r h = h
 shifts_lt (suc k) r h = shifts_lt k (shift r) (shift_lt r h)
 
-register_lt : (bs : List ℕ) (r : ℕ) → r < 2 ^ 32 → All (λ b. b < 256) bs → register r bs < 2 ^ 32
+register_lt : (bs : List ℕ) (r : ℕ) → r < 2 ^ 32 → AllByRecursion (λ b. b < 256) bs → register r bs < 2 ^ 32
 unfolding register feed
 register_lt [] r h a = h
 register_lt (b ∷ bs) r h a = register_lt bs (feed r b) (shifts_lt 8 (bit_xor r b) (xor_lt 32 r b h (omega (arith, a.0)))) a.1
 
 -- the checksum of bytes fits its four bytes
-pub crc_lt : (bs : List ℕ) → All (λ b. b < 256) bs → crc bs < 2 ^ 32
+pub crc_lt : (bs : List ℕ) → AllByRecursion (λ b. b < 256) bs → crc bs < 2 ^ 32
 unfolding crc
 crc_lt bs a = xor_lt 32 (register 0xFFFFFFFF bs) 0xFFFFFFFF (register_lt bs 0xFFFFFFFF (omega arith) a) (omega arith)

@@ -1,6 +1,6 @@
 -- What every history of a server obeys that began on a disk without records.
 use Rattle.std.specs.Prelude.{◌≡◌, ℕ, ◌+◌, ◌-◌, ◌*◌, ◌^◌, ◌<◌, ◌≤◌, max, true, List, [], ◌∷◌, length, Some, Ok, Err, Result}
-use Rattle.std.specs.List.{AllByRecursion as All}
+use Rattle.std.specs.List.{AllByRecursion}
 use Rattle.record.specs.declared.numbers.Identifier.{Identifier}
 use Rattle.record.specs.declared.numbers.Rank.{Rank}
 use Rattle.record.specs.declared.numbers.Reading.{Reading}
@@ -42,7 +42,7 @@ module _ (k : Numbering) (start : Meaning) (s : ℕ) (reading : Reading) (past :
     pub lawful : rank ≤ k.top.0
     pub told : identifier ≡ k.identifier s (record { 0 = rank })
     pub only : (r : Rank) → r.0 ≤ k.top.0 → identifier ≡ k.identifier s r → r.0 ≡ rank
-    pub above : All (λ earlier. earlier.0 < identifier.0) (labels s past)
+    pub above : AllByRecursion (λ earlier. earlier.0 < identifier.0) (labels s past)
 
   -- bounded loss: the rank is at most a block size for each cut above the larger of the rank that would follow the last one
   -- and the highest floor since, its own with it

@@ -1,6 +1,6 @@
 -- A torn write leaves one of the two records, or a blank sector.
 use Rattle.std.proofs.Common.{◌≡◌, ℕ, zero, suc, ◌+◌, ◌%◌, Bool, true, false, T, List, map, refl, ap, ◌∙◌, inl, inr, ⊎_elim, lit<}
-use Rattle.std.specs.List.{range_with_len, AllByRecursion as All}
+use Rattle.std.specs.List.{range_with_len, AllByRecursion}
 use Rattle.record.specs.Sector.{sound, content, encoded}
 use Rattle.record.specs.declared.sector.Content.TheVariants.{Blank, Record as Holds}
 use Rattle.record.proofs.ReadBack.{read_back}
@@ -39,6 +39,6 @@ one_of_three_by Faithful flushed tear = inr (inl reads_newer)
 
 pub all_one_of_three :
     (device : Device) (flushed : Bool) (a n : ℕ) →
-    All (λ t. OneOfThree t.left) (map (trial_of device flushed) (range_with_len a n))
+    AllByRecursion (λ t. OneOfThree t.left) (map (trial_of device flushed) (range_with_len a n))
 all_one_of_three device flushed a zero = tt
 all_one_of_three device flushed a (suc n) = (one_of_three_by device flushed a, all_one_of_three device flushed (a + 1) n)

@@ -1,6 +1,6 @@
 // The trials of every tear, and how many of them left what.
 ghost use Rattle.std.specs.Prelude.{◌≡◌, map, IfOk};
-ghost use Rattle.std.specs.List.{range_with_len, AllByRecursion as All};
+ghost use Rattle.std.specs.List.{range_with_len, AllByRecursion};
 ghost use Rattle.trial.specs.Trial.{OneOfThree};
 ghost use Rattle.trial.specs.Table.{trial_of, leaves, how_many};
 
@@ -70,7 +70,7 @@ pub fn cut_at(device: Device, flushed: bool, tear: u64) -> Trial
 // The trials of all tears, from 0 to 32.
 pub fn trials(heap: Global, device: Device, flushed: bool) -> Result<Vec<Trial>, AllocError>
     ensures table { IfOk result (λ v. v.items ≡ map (trial_of device flushed) (range_with_len 0 33)) }
-    ensures one_of_three { IfOk result (λ v. All (λ t. OneOfThree t.left) v.items) }
+    ensures one_of_three { IfOk result (λ v. AllByRecursion (λ t. OneOfThree t.left) v.items) }
 {
     let mut trials = Vec::new(heap);
     for tear in 0..TEARS {

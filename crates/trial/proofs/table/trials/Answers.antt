@@ -1,5 +1,5 @@
 use Rattle.std.proofs.Common.{◌≡◌, ℕ, map, vec_items, sym, ap, ◌∙◌, subst, arith, rules}
-use Rattle.std.specs.List.{range_with_len, AllByRecursion as All}
+use Rattle.std.specs.List.{range_with_len, AllByRecursion}
 use Rattle.std.proofs.lemmas.List.FromFn.{map-range_with_len_more}
 use Rattle.trial.specs.Table.{trial_of}
 use Rattle.trial.specs.Trial.{OneOfThree}
@@ -20,5 +20,5 @@ returns c =
     c.loop-tear.invariant ∙ ap (λ (n : ℕ). map (trial_of c.args.device c.args.flushed) (range_with_len 0 n)) all in
     record {
       table = table;
-      one_of_three = subst (All (λ (t : Trial). OneOfThree t.left)) (sym table) (all_one_of_three c.args.device c.args.flushed 0 33);
+      one_of_three = subst (AllByRecursion (λ (t : Trial). OneOfThree t.left)) (sym table) (all_one_of_three c.args.device c.args.flushed 0 33);
     }
