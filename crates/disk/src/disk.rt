@@ -1,5 +1,5 @@
 // What every disk promises.
-ghost use Rattle.std.specs.Prelude.{◌≡◌, ℕ, MatchResult};
+ghost use Rattle.std.specs.Prelude.{◌≡◌, MatchResult};
 ghost use Rattle.disk.specs.Meaning.{Meaning, Shaped, count, found, answer_of, Wrote, Flushed, Cut};
 ghost use Rattle.disk.specs.declared.fault.Operation.TheVariants.{Write, Flush};
 

@@ -1,5 +1,5 @@
 // Why the ring denied a call.
-ghost use Rattle.std.specs.Prelude.{◌≡◌, Ok, Err};
+ghost use Rattle.std.specs.Prelude.{◌≡◌};
 ghost use Rattle.ring.specs.Faults.{with_work, number_of};
 ghost use Rattle.ring.specs.declared.fault.RingFault.TheVariants.{Disk, Interrupted as Stopped};
 

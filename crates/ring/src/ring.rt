@@ -1,5 +1,5 @@
 // The ring over any disk.
-ghost use Rattle.std.specs.Prelude.{◌≡◌, ◌+◌, ◌%◌, ◌^◌, ◌<◌, cond, IfOk, IfErr, Some, None, Ok, Err, MatchResult};
+ghost use Rattle.std.specs.Prelude.{◌≡◌, ◌+◌, ◌^◌, ◌<◌, IfOk, IfErr, Some, None, Ok, Err, MatchResult};
 ghost use Rattle.ring.specs.Left.{end_of, ReservationLaws, TopsCounted};
 ghost use Rattle.ring.specs.Faults.{with_work};
 ghost use Rattle.disk.specs.Meaning.{Meaning, at, count, answer_of, Flushed};

@@ -145,20 +145,20 @@ left_standing k start s end (Some left) = end_in k start left s == end
 
 -- a request's reservation: none, flushed, or not flushed
 abbrev pub stood : Numbering → Meaning → ℕ → ℕ → ℕ → Option Meaning → List Step → Bool
-stood k start s end supply next-cut [] = false
-stood k start s end supply next-cut (step ∷ steps) =
-    cond (too_little supply (step ∷ steps)) (left_standing k start s end next-cut) true
+stood k start s end supply next_cut [] = false
+stood k start s end supply next_cut (step ∷ steps) =
+    cond (too_little supply (step ∷ steps)) (left_standing k start s end next_cut) true
 
 -- how many reservations of a series were flushed, or left standing by the next cut; what the next cut after these events
 -- left is given, where there was one
 abbrev pub standing : Numbering → Meaning → ℕ → Option Meaning → List Event → ℕ
-standing k start s next-cut [] = 0
-standing k start s next-cut (cut tear supply answer after ∷ past) = standing k start s (Some after) past
-standing k start s next-cut (request t reading answer after ∷ past) =
+standing k start s next_cut [] = 0
+standing k start s next_cut (cut tear supply answer after ∷ past) = standing k start s (Some after) past
+standing k start s next_cut (request t reading answer after ∷ past) =
     cond
-    (t == s && stood k start s (block_to k start t reading past) (latest start past).supply next-cut (asked k start t reading past))
-    (standing k start s next-cut past + 1)
-    (standing k start s next-cut past)
+    (t == s && stood k start s (block_to k start t reading past) (latest start past).supply next_cut (asked k start t reading past))
+    (standing k start s next_cut past + 1)
+    (standing k start s next_cut past)
 
 -- how many of them were made before the one that covers a request's rank: that is the request's own reservation where it
 -- makes one, and else the latest

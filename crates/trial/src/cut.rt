@@ -1,5 +1,5 @@
 // One trial: the current fails inside the write of one record.
-ghost use Rattle.std.specs.Prelude.{◌≡◌, T, length, Ok, Err};
+ghost use Rattle.std.specs.Prelude.{◌≡◌, T, length, Ok};
 ghost use Rattle.record.specs.declared.sector.Content.TheVariants.{Record as Holds};
 ghost use Rattle.disk.specs.Memory.{sectors};
 ghost use Rattle.trial.specs.Trial.{left_torn, left_faithful, OneOfThree, format as the_format, older as the_older, newer as the_newer};
