@@ -1,7 +1,6 @@
 -- A flat memory and its sectors: how many there are, what each holds, and what a store changes.
 use Rattle.std.proofs.Common.{◌≡◌, ℕ, zero, suc, ◌+◌, ◌-◌, ◌*◌, ◌/◌, ◌<◌, ◌≤◌, true, List, [], ◌++◌, length, get_or, take, drop, set, sym, refl, ap, ◌∙◌, append_assoc, arith, take-add}
 use borrow.Rule.Slice.PartMut.{put_mid}
-use Rattle.std.specs.List.{AllByRecursion}
 use Rattle.std.proofs.lemmas.List.{length-append, length-take, length-drop, drop-drop, take_at, drop_at, drop_all, take_rest, append-nil}
 use Rattle.std.proofs.lemmas.Bool.Decides.{nat_tests}
 use Rattle.disk.specs.Memory.{right_size, chunks, sectors, spare, stored}
@@ -18,16 +17,6 @@ at-chunks (suc n) zero xs h = refl
 at-chunks (suc n) (suc i) xs h =
     at-chunks n i (drop 32 xs) (omega arith)
     ∙ ap (take 32) (drop-drop (32 * i) 32 xs ∙ ap (λ (k : ℕ). drop k xs) (omega arith))
-
-chunks_shaped : (n : ℕ) (xs : List ℕ) → 32 * n ≤ length xs → AllByRecursion (λ sector. length sector ≡ 32) (chunks n xs)
-unfolding chunks
-chunks_shaped zero xs h = tt
-chunks_shaped (suc n) xs h =
-    (simp length-take (omega arith), chunks_shaped n (drop 32 xs) (simp length-drop (omega arith)))
-
-pub all_shaped : (xs : List ℕ) → AllByRecursion (λ sector. length sector ≡ 32) (sectors xs)
-unfolding sectors
-all_shaped xs = chunks_shaped (length xs / 32) xs (omega arith)
 
 -- a store shortens or lengthens nothing
 pub length-stored :

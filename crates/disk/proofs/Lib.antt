@@ -1,2 +1,2 @@
 pub mod Chunks
-pub mod Tearing
+pub mod Cutting

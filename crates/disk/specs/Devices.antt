@@ -4,12 +4,22 @@ use Rattle.std.specs.Str.{bytes_eq}
 use Rattle.record.specs.Sector.{sound}
 use Rattle.disk.specs.Meaning.{Meaning, at}
 use Rattle.disk.specs.Memory.{sectors, spare, stored}
-use Rattle.disk.specs.declared.faithful.FaithfulDisk.{FaithfulDisk}
+use Rattle.disk.specs.declared.faithful.WriteThrough.{WriteThrough}
+use Rattle.disk.specs.declared.memory.MemoryDisk.{MemoryDisk}
 use Rattle.disk.specs.declared.torn.Held.{Held}
-use Rattle.disk.specs.declared.torn.TornDisk.{TornDisk}
+
+-- a disk over memory keeps what it reads, but for the writes that it holds back
+abbrev pub memory_disk : {H : Type 0} → (H → List (List ℕ) → List (List ℕ)) → MemoryDisk H → Meaning
+memory_disk before d =
+    record {
+      reading = sectors d.sectors.memory.now;
+      kept = before d.held (sectors d.sectors.memory.now);
+      supply = d.supply;
+      beyond = spare d.sectors.memory.now;
+    }
 
 -- a faithful disk keeps what it reads
-abbrev pub faithful : FaithfulDisk → Meaning
+abbrev pub faithful : MemoryDisk WriteThrough → Meaning
 faithful d =
     record {
       reading = sectors d.sectors.memory.now;
@@ -24,7 +34,7 @@ before None sectors = sectors
 before (Some h) sectors = slice_set sectors h.sector h.old
 
 -- a torn disk keeps what it reads, but for the write that it holds back
-abbrev pub torn_disk : TornDisk → Meaning
+abbrev pub torn_disk : MemoryDisk (Option Held) → Meaning
 torn_disk d =
     record {
       reading = sectors d.sectors.memory.now;

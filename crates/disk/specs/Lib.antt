@@ -1,3 +1,6 @@
 pub mod Devices
+pub mod Holding
 pub mod Meaning
 pub mod Memory
+pub mod Shape
+pub mod Tearing

@@ -12,8 +12,7 @@ pub trait Disk {
 
     // The number of sectors.
     fn sectors(&self) -> usize
-        ensures count { result ≡ count (meaning self.now) }
-        ensures shaped { Shaped (meaning self.now) };
+        ensures count { result ≡ count (meaning self.now) };
 
     // The bytes of a sector.
     fn read(&self, sector: usize) -> Result<[u8; SECTOR_BYTES], DiskFault>
@@ -32,4 +31,7 @@ pub trait Disk {
     // The current fails and comes back, with so many writes and flushes to succeed. The tear says how a write is torn.
     fn cut(&mut self, tear: u64, supply: u64)
         ensures meaning { Cut (meaning self.old) supply (meaning self.new) };
+
+    // Sectors have 32 bytes, and as many are kept as are read.
+    ghost shaped: { (disk : Self) → Shaped (meaning disk) };
 }

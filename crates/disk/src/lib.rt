@@ -4,13 +4,18 @@
 mod disk;
 mod faithful;
 mod fault;
+mod hold;
+mod memory;
 mod sectors;
 mod size;
 mod torn;
 
 pub use disk::Disk;
-pub use faithful::FaithfulDisk;
+pub use faithful::{FaithfulDisk, WriteThrough};
 pub use fault::{Cause, DiskFault, Operation};
+pub use hold::HoldBack;
+pub use memory::MemoryDisk;
+pub use sectors::Sectors;
 pub use size::{BadSize, LEAST_SECTORS, MOST_SECTORS};
 pub use torn::{Held, TornDisk};
 

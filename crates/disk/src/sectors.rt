@@ -1,6 +1,5 @@
 // Memory handed in, as sectors of 32 bytes.
 ghost use Rattle.std.specs.Prelude.{◌≡◌, ◌/◌, ◌<◌, ◌≤◌, [], ◌++◌, length, drop, is_ok, IfOk, MatchResult, slice_index_or, slice_set};
-ghost use Rattle.std.specs.List.{AllByRecursion};
 ghost use Rattle.disk.specs.Meaning.{found};
 ghost use Rattle.disk.specs.Memory.{right_size, sectors as cut_up, spare, stored};
 
@@ -39,7 +38,6 @@ impl<'a> Sectors<'a> {
     // How many whole sectors the memory has.
     pub(crate) fn count(&self) -> usize
         ensures value { result ≡ length self.now.memory.now / 32 }
-        ensures shaped { AllByRecursion (λ sector. length sector ≡ 32) (cut_up self.now.memory.now) }
         ensures listed { result ≡ length (cut_up self.now.memory.now) }
     {
         self.memory.len() / SECTOR_BYTES

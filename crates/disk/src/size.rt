@@ -30,5 +30,5 @@ impl BadSize<'_> {
 pub(crate) fn is_right_size(bytes: usize, sectors: usize) -> bool
     ensures { result ≡ right_size bytes sectors }
 {
-    LEAST_SECTORS <= sectors && sectors <= MOST_SECTORS && bytes == SECTOR_BYTES * sectors
+    (LEAST_SECTORS..=MOST_SECTORS).contains(&sectors) && bytes == SECTOR_BYTES * sectors
 }

@@ -1,6 +1,6 @@
 use Rattle.std.proofs.Common.{sym, refl}
-use Rattle.disk.proofs.Chunks.{length-sectors, all_shaped}
+use Rattle.disk.proofs.Chunks.{length-sectors}
 use Rattle.disk.proofs.sectors.Sectors.count.Goals as goal
 
 pub returns : goal.returns
-returns c = record { value = refl; shaped = all_shaped c.args.self.now.memory.now; listed = sym (length-sectors c.args.self.now.memory.now) }
+returns c = record { value = refl; listed = sym (length-sectors c.args.self.now.memory.now) }

@@ -2,10 +2,11 @@
 use Rattle.std.proofs.Common.{◌≡◌, ℕ, ◌%◌, ◌<◌, ◌≤◌, Bool, true, false, not, ◌&&◌, ◌≢◌, ◌⊎◌, List, [], length, Some, None, Option, sym, refl, ap, ◌∙◌, subst, inl, inr, ⊎_elim}
 use Rattle.std.specs.Str.{bytes_eq}
 use Rattle.std.proofs.lemmas.Slice.Eq.{bytes_eq-Decides}
-use Rattle.std.proofs.lemmas.List.{length-set, get_or-set_same, get_or-set_other, set_past, take-append-drop}
+use Rattle.std.proofs.lemmas.List.{length-set, get_or-set_same, get_or-set_other, set-set, set-get_or, set_past, take-append-drop}
 use Rattle.std.proofs.lemmas.Bool.{cases_Bool, cases_eq, cases_lt, true≢false}
 use Rattle.record.specs.Sector.{sound}
 use Rattle.disk.specs.Devices.{before, mixture, mended, torn, left_sectors}
+use Rattle.disk.specs.Holding.{KeepsOneOf}
 use Rattle.disk.specs.Meaning.{at, Cut}
 use Rattle.disk.specs.declared.torn.Held.{Held}
 
@@ -108,19 +109,27 @@ length-left tear (Some h) xs = length-set xs h.sector _
 
 -- that is a cut of a disk
 pub cut_by_tear :
-    (tear supply was : ℕ) (h : Option Held) (xs ys : List (List ℕ)) (spare after : List ℕ) →
-    ys ≡ left_sectors tear h xs → after ≡ spare →
-    Cut (record { reading = xs; kept = before h xs; supply = was; beyond = spare }) supply
-    (record { reading = ys; kept = ys; supply = supply; beyond = after })
-cut_by_tear tear supply was h xs ys spare after e same =
+    (h : Option Held) (tear was supply : ℕ) (xs : List (List ℕ)) (beyond : List ℕ) →
+    Cut (record { reading = xs; kept = before h xs; supply = was; beyond = beyond }) supply
+    (record { reading = left_sectors tear h xs; kept = left_sectors tear h xs; supply = supply; beyond = beyond })
+cut_by_tear h tear was supply xs beyond =
     record {
-      reads_count = ap length e ∙ length-left tear h xs;
-      reads = λ k. subst (OneOfBoth k) (sym e) (left_one_of tear h xs k);
-      settled = λ k equal. ap (λ (zs : List (List ℕ)). at zs k) e ∙ left-settled tear h xs k equal;
+      reads_count = length-left tear h xs;
+      reads = left_one_of tear h xs;
+      settled = left-settled tear h xs;
       keeps = refl;
       supplied = refl;
-      leaves = same;
+      leaves = refl;
     }
-  where
-    OneOfBoth : ℕ → List (List ℕ) → Type 0
-    OneOfBoth k zs = (at zs k ≡ at (before h xs) k) ⊎ ((at zs k ≡ at xs k) ⊎ (sound (at zs k) ≡ false))
+
+-- the sectors before a write are as many
+pub before-count : (h : Option Held) (xs : List (List ℕ)) → length (before h xs) ≡ length xs
+before-count None xs = refl
+before-count (Some h) xs = length-set xs h.sector h.old
+
+-- a write that is held back keeps what was read before it
+pub before-write :
+    (h : Option Held) (xs : List (List ℕ)) (i : ℕ) (bytes : List ℕ) →
+    KeepsOneOf before (λ _ sector old. Some (record { sector = sector; old = old })) h xs i bytes
+before-write h xs i bytes k =
+    inr (inl (ap (λ (ys : List (List ℕ)). at ys k) (set-set xs i bytes (at xs i) ∙ set-get_or xs i [])))
