@@ -14,6 +14,11 @@ abbrev pub left_by : Device → Bool → ℕ → Content
 left_by Torn flushed tear = left_torn flushed tear
 left_by Faithful flushed tear = left_faithful
 
+-- whether the newer record stands after the cut: on a torn disk where it was flushed, on a faithful disk in any case
+abbrev pub stands : Device → Bool → Bool
+stands Torn flushed = flushed
+stands Faithful flushed = true
+
 -- one trial, told whole
 abbrev pub trial_of : Device → Bool → ℕ → Trial
 trial_of device flushed tear = record { device = device; flushed = flushed; tear = tear; left = left_by device flushed tear }

@@ -1,11 +1,12 @@
 -- What a cut leaves of a sector in which a newer record is being written over an older one.
-use Rattle.std.specs.Prelude.{◌≡◌, ℕ, Bool, true, false, ◌⊎◌, List}
+use Rattle.std.specs.Prelude.{◌≡◌, ℕ, Bool, true, false, ◌⊎◌, List, replicate, slice_set}
 use Rattle.record.specs.Sector.{content, encoded}
 use Rattle.record.specs.declared.sector.Content.{Content}
 use Rattle.record.specs.declared.sector.Content.TheVariants.{Blank, Record as Holds}
 use Rattle.record.specs.declared.sector.Format.{Format}
 use Rattle.record.specs.declared.sector.Record.{Record}
 use Rattle.disk.specs.Devices.{torn}
+use Rattle.disk.specs.Meaning.{at}
 
 -- the disk of the trial has ten sectors and serial records
 abbrev pub format : Format
@@ -18,6 +19,23 @@ older = record { series = 2; sequence = record { 0 = 3 }; end = record { 0 = 200
 -- record 13 of series 2, with the ranks below 300 reserved: it lies in the same sector of ten
 abbrev pub newer : Record
 newer = record { series = 2; sequence = record { 0 = 13 }; end = record { 0 = 300 } }
+
+-- a disk without records, and the same once the newer record is written
+abbrev pub blank_sectors : List (List ℕ)
+blank_sectors = replicate 10 (replicate 32 0)
+
+abbrev pub rewritten : List (List ℕ)
+rewritten = slice_set blank_sectors 3 (encoded 1 newer)
+
+-- what a disk holds back of the trial: nothing once it was flushed, and else the write over the older record
+abbrev pub held : {H : Type 0} → H → (H → ℕ → List ℕ → H) → Bool → H
+held nothing with_write true = nothing
+held nothing with_write false = with_write nothing 3 (encoded 1 older)
+
+-- what a cut leaves of the sector, as it is read
+abbrev pub left_on : {H : Type 0} → H → (H → ℕ → List ℕ → H) → (ℕ → H → List (List ℕ) → List (List ℕ)) → Bool → ℕ → Content
+left_on nothing with_write left_sectors flushed tear =
+    content format 3 (at (left_sectors tear (held nothing with_write flushed) rewritten) 3)
 
 -- a torn disk leaves the newer record where it was flushed, and else what the tear makes of the two
 abbrev pub bytes_left : Bool → ℕ → List ℕ

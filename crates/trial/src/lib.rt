@@ -4,7 +4,7 @@
 mod cut;
 mod table;
 
-pub use cut::{left_by_faithful, left_by_torn, newer, older};
+pub use cut::{left_by, newer, older};
 pub use table::{Device, Outcome, Trial, count, cut_at, trials};
 
 #[cfg(test)]

@@ -1,10 +1,12 @@
 // The trials of every tear, and how many of them left what.
-ghost use Rattle.std.specs.Prelude.{◌≡◌, map, IfOk};
+ghost use Rattle.std.specs.Prelude.{◌≡◌, T, map, IfOk};
+ghost use Rattle.record.specs.declared.sector.Content.TheVariants.{Record as Holds};
 ghost use Rattle.std.specs.List.{range_with_len, AllByRecursion};
-ghost use Rattle.trial.specs.Trial.{OneOfThree};
-ghost use Rattle.trial.specs.Table.{trial_of, leaves, how_many};
+ghost use Rattle.trial.specs.Trial.{newer, OneOfThree};
+ghost use Rattle.trial.specs.Table.{trial_of, leaves, how_many, stands};
 
-use crate::cut::{left_by_faithful, left_by_torn, newer, older};
+use crate::cut::{left_by, newer, older};
+use disk::{Held, WriteThrough};
 use record::Content;
 use std::alloc::{AllocError, Global};
 use std::fmt;
@@ -42,8 +44,8 @@ impl Outcome {
         ensures { result ≡ leaves self left }
     {
         match (self, left) {
-            (Outcome::Older, Content::Record(record)) => record.sequence.0 == older().sequence.0,
-            (Outcome::Newer, Content::Record(record)) => record.sequence.0 == newer().sequence.0,
+            (Outcome::Older, Content::Record(record)) => record.sequence == older().sequence,
+            (Outcome::Newer, Content::Record(record)) => record.sequence == newer().sequence,
             (Outcome::Blank, Content::Blank) => true,
             _ => false,
         }
@@ -54,10 +56,11 @@ impl Outcome {
 pub fn cut_at(device: Device, flushed: bool, tear: u64) -> Trial
     ensures value { result ≡ trial_of device flushed tear }
     ensures one_of_three { OneOfThree result.left }
+    ensures settled { T (stands device flushed) → result.left ≡ Holds newer }
 {
     let left = match device {
-        Device::Torn => left_by_torn(flushed, tear),
-        Device::Faithful => left_by_faithful(flushed, tear),
+        Device::Torn => left_by::<Option<Held>>(flushed, tear),
+        Device::Faithful => left_by::<WriteThrough>(flushed, tear),
     };
     Trial {
         device,
@@ -72,24 +75,19 @@ pub fn trials(heap: Global, device: Device, flushed: bool) -> Result<Vec<Trial>,
     ensures table { IfOk result (λ v. v.items ≡ map (trial_of device flushed) (range_with_len 0 33)) }
     ensures one_of_three { IfOk result (λ v. AllByRecursion (λ t. OneOfThree t.left) v.items) }
 {
-    let mut trials = Vec::new(heap);
-    for tear in 0..TEARS {
-        trials.push(cut_at(device, flushed, tear))?;
-    }
-    Ok(trials)
+    (0..TEARS)
+        .map(|tear| cut_at(device, flushed, tear))
+        .collect(heap)
 }
 
 // How many trials had this outcome.
 pub fn count(trials: &[Trial], outcome: Outcome) -> usize
     ensures { result ≡ how_many outcome trials.now }
 {
-    let mut number = 0;
-    for trial in trials {
-        if outcome.is_of(trial.left) {
-            number += 1;
-        }
-    }
-    number
+    trials
+        .iter()
+        .filter(|trial| outcome.is_of(trial.left))
+        .count()
 }
 
 // A line for a reader: the tear, and what the sector reads as.
