@@ -2,7 +2,7 @@
 use Rattle.std.proofs.Common.{◌≡◌, ℕ, zero, suc, ◌%◌, ◌≤◌, List, [], ◌∷◌, length, sym, refl, ap, ◌∙◌, inl, inr, arith, length-set}
 use Rattle.disk.specs.Devices.{torn, mixture}
 use Rattle.disk.specs.Meaning.{Meaning, Wrote, Flushed, Cut, at}
-use Rattle.disk.proofs.Tearing.{mended_one_of}
+use Rattle.disk.specs.Tearing.{mended_one_of}
 use Rattle.ring.specs.Operations.{Op, put, settle, Went}
 use Rattle.simulator.specs.Devices.{written, settled, torn_apart, cut_by}
 use Rattle.simulator.specs.declared.device.Make.{Make}

@@ -1,12 +1,14 @@
 -- The worked history is reached: antt computes what each call answers and leaves.
-use Rattle.std.proofs.Common.{◌≡◌, ℕ, zero, suc, ◌+◌, ◌<◌, false, List, [], ◌∷◌, length, set, replicate, Some, None, Ok, Err, Result, sym, refl, ◌∙◌, inl, arith, lit<, rules}
+use Rattle.std.proofs.Common.{◌≡◌, ℕ, zero, suc, ◌+◌, ◌<◌, false, List, [], ◌∷◌, length, set, replicate, Some, None, Ok, Err, Result, sym, refl, ◌∙◌, subst, inl, arith, lit<, rules}
 use Rattle.record.specs.Crc.{crc, register, feed, shifts, shift}
 use Rattle.record.specs.Sector.{sound, little, content, encoded, body, bytes_of, parts, all_zero}
 use Rattle.record.specs.declared.numbers.Identifier.{Identifier}
 use Rattle.record.specs.declared.numbers.Rank.{Rank}
 use Rattle.record.specs.declared.sector.Format.{Format}
 use Rattle.disk.specs.Meaning.{Meaning, at, Wrote, Flushed, Cut}
-use Rattle.disk.proofs.Tearing.{cut_by_tear}
+use Rattle.disk.specs.Devices.{before}
+use Rattle.disk.specs.Tearing.{cut_by_tear}
+use Rattle.disk.specs.declared.torn.Held.{Held}
 use Rattle.ring.specs.Left.{Recovers}
 use Rattle.ring.specs.Operations.{performed, outcome}
 use Rattle.ring.specs.Ring.{slot, top, top_below, live, live_below, known, is_foreign, foreign_below, plan, Sized}
@@ -145,9 +147,14 @@ pub torn_inside : TornInside
 unfolding sound little crc register feed shifts shift encoded body bytes_of
 torn_inside = (refl, refl)
 
+abbrev half : Held
+half = record { sector = 2; old = replicate 32 0 }
+
 cut_left : Cut after_second 9 after_cut
 cut_left =
-    cut_by_tear 20 9 0 (Some (record { sector = 2; old = replicate 32 0 })) with_two with_part [] [] (sym torn_inside.0) refl
+    subst
+    (λ (left : List (List ℕ)). Cut (record { reading = with_two; kept = before (Some half) with_two; supply = 0; beyond = [] }) 9 (record { reading = left; kept = left; supply = 9; beyond = [] }))
+    torn_inside.0 (cut_by_tear (Some half) 20 0 9 with_two [])
 
 reached_cut : Reached one_by_one start (power_cut ∷ second ∷ first ∷ []) (Awake (up_at with_part 1)) after_cut
 unfolding live live_below top top_below foreign_below slot content sound little crc register feed shifts shift encoded body bytes_of parts all_zero

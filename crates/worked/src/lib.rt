@@ -5,6 +5,6 @@ mod blank;
 mod history;
 mod kinds;
 
-pub use blank::{blank_faithful, blank_torn};
+pub use blank::blank_disk;
 pub use history::worked_history;
 pub use kinds::kinds_are_lawful;
