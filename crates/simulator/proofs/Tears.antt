@@ -7,10 +7,13 @@ use Rattle.disk.specs.Devices.{torn, mixture, mended, before, left_sectors, torn
 use Rattle.disk.specs.Meaning.{Meaning, Wrote, Cut, at}
 use Rattle.disk.specs.Memory.{sectors}
 use Rattle.disk.specs.declared.fault.DiskFault.{DiskFault}
+use Rattle.disk.specs.declared.memory.MemoryDisk.{MemoryDisk}
 use Rattle.disk.specs.declared.torn.Held.{Held}
-use Rattle.disk.specs.declared.torn.TornDisk.{TornDisk}
 use Rattle.simulator.specs.Devices.{torn_apart, written, cut_by}
 use Rattle.simulator.specs.declared.device.Make.TheVariants.{Torn}
+
+abbrev TornDisk : Type 0
+TornDisk = MemoryDisk (Option Held)
 
 either : {A : Type 0} (b : Bool) (x : A) → cond b x x ≡ x
 either true x = refl

@@ -1,7 +1,10 @@
 -- The disks that a request file may choose, by what a disk means.
-use Rattle.std.specs.Prelude.{ℕ, ◌-◌, List, [], ◌∷◌, replicate, slice_set}
+use Rattle.std.specs.Prelude.{ℕ, ◌-◌, List, [], ◌∷◌, replicate, refl, slice_set}
 use Rattle.disk.specs.Devices.{faithful, torn_disk, torn}
-use Rattle.disk.specs.Meaning.{Meaning}
+use Rattle.disk.specs.Meaning.{Meaning, Shaped}
+use Rattle.disk.specs.Memory.{sectors}
+use Rattle.disk.specs.Shape.{all_shaped}
+use Rattle.disk.specs.Tearing.{before-count}
 use Rattle.simulator.specs.declared.device.Device.{Device}
 use Rattle.simulator.specs.declared.device.Device.TheVariants.{Faithful, Torn}
 use Rattle.simulator.specs.declared.device.Make.{Make}
@@ -11,6 +14,11 @@ use Rattle.simulator.specs.declared.device.Make.TheVariants.{Faithful as AFaithf
 abbrev pub meaning_of : Device → Meaning
 meaning_of (Faithful d) = faithful d
 meaning_of (Torn d) = torn_disk d
+
+-- sectors of 32 bytes, and as many kept as are read
+pub shaped : (d : Device) → Shaped (meaning_of d)
+shaped (Faithful d) = record { bytes = all_shaped d.sectors.memory.now; keeps = refl }
+shaped (Torn d) = record { bytes = all_shaped d.sectors.memory.now; keeps = before-count d.held (sectors d.sectors.memory.now) }
 
 -- which disk it is
 abbrev pub make_of : Device → Make

@@ -1,10 +1,12 @@
 // The disks that a request file may choose.
-ghost use Rattle.std.specs.Prelude.{◌≡◌, ◌*◌, ◌≤◌, length, drop, replicate, MatchResult, OnOk};
+ghost use Rattle.std.specs.Prelude.{◌≡◌, T, ◌*◌, ◌≤◌, length, drop, replicate, MatchResult, OnOk};
 ghost use Rattle.disk.specs.Meaning.{answer_of, Wrote, Flushed, Cut};
+ghost use Rattle.disk.specs.Devices.{memory_disk};
+ghost use Rattle.disk.specs.Memory.{right_size};
 ghost use Rattle.disk.specs.declared.fault.Operation.TheVariants.{Write, Flush};
-ghost use Rattle.simulator.specs.Devices.{meaning_of, make_of, cleared, written, settled, cut_by};
+ghost use Rattle.simulator.specs.Devices.{meaning_of, shaped, make_of, cleared, written, settled, cut_by};
 
-use disk::{Disk, DiskFault, FaithfulDisk, TornDisk};
+use disk::{Disk, DiskFault, FaithfulDisk, HoldBack, MemoryDisk, TornDisk};
 use record::SECTOR_BYTES;
 
 // Which disk it is.
@@ -26,6 +28,8 @@ const FIRST_SUPPLY: u64 = 1_000_000;
 
 impl Disk for Device<'_> {
     ghost meaning = { meaning_of };
+
+    ghost shaped = { shaped };
 
     fn sectors(&self) -> usize {
         match self {
@@ -77,7 +81,19 @@ impl Disk for Device<'_> {
     }
 }
 
-// A disk over all of a memory that is cleared.
+// A new disk over all of a memory that is cleared.
+fn cleared_disk<'a, H: HoldBack>(memory: &'a mut [u8], sectors: usize) -> MemoryDisk<'a, H>
+    requires size { T (right_size (length memory.old) sectors) }
+    requires zeros { memory.old ≡ replicate (32 * sectors) 0 }
+    ensures { memory_disk H.before result ≡ cleared sectors }
+{
+    match MemoryDisk::new(memory, sectors, FIRST_SUPPLY) {
+        Ok(disk) => disk,
+        Err(_) => unreachable(),
+    }
+}
+
+// The same of either make.
 fn over<'a>(make: Make, memory: &'a mut [u8], sectors: usize) -> Device<'a>
     requires least { 10 ≤ sectors }
     requires most { sectors ≤ 2048 }
@@ -87,14 +103,8 @@ fn over<'a>(make: Make, memory: &'a mut [u8], sectors: usize) -> Device<'a>
     ensures cleared { meaning_of result ≡ cleared sectors }
 {
     match make {
-        Make::Faithful => match FaithfulDisk::new(memory, sectors, FIRST_SUPPLY) {
-            Ok(disk) => Device::Faithful(disk),
-            Err(_) => unreachable(),
-        },
-        Make::Torn => match TornDisk::new(memory, sectors, FIRST_SUPPLY) {
-            Ok(disk) => Device::Torn(disk),
-            Err(_) => unreachable(),
-        },
+        Make::Faithful => Device::Faithful(cleared_disk(memory, sectors)),
+        Make::Torn => Device::Torn(cleared_disk(memory, sectors)),
     }
 }
 

@@ -1,39 +1,18 @@
 -- Cleared memory as sectors, none of which holds a record.
-use Rattle.std.proofs.Common.{◌≡◌, ℕ, zero, suc, ◌-◌, ◌*◌, ◌/◌, ◌≤◌, Bool, true, false, List, [], length, take, drop, replicate, is_ok, Ok, Err, Result, sym, refl, ap, ◌∙◌, subst, arith, MatchResult}
-use Rattle.std.proofs.lemmas.List.{length-replicate, get_or-replicate, take-replicate, drop-replicate}
+use Rattle.std.proofs.Common.{◌≡◌, ℕ, ◌*◌, ◌≤◌, Bool, true, false, List, [], length, replicate, is_ok, Ok, Err, Result, sym, refl, ap, ◌∙◌, subst, arith, MatchResult}
+use Rattle.std.proofs.lemmas.List.{length-replicate, get_or-replicate}
 use Rattle.std.proofs.lemmas.Bool.Decides.{nat_tests}
 use Rattle.record.specs.Crc.{crc, register, feed, shifts, shift}
 use Rattle.record.specs.Sector.{sound, little}
 use Rattle.disk.specs.Meaning.{Meaning}
-use Rattle.disk.specs.Memory.{right_size, chunks, sectors, spare}
+use Rattle.disk.specs.Memory.{right_size, sectors, spare}
+use Rattle.disk.proofs.Zeros.{sectors_zero, spare_zero}
 use Rattle.ring.specs.Left.{WithoutRecords}
 use Rattle.worked.specs.Blank.{zeros, cleared, BlankDisk}
 
 -- so many zero bytes
 abbrev bytes : ℕ → List ℕ
 bytes n = replicate n 0
-
-chunks_zero : (n : ℕ) → chunks n (bytes (32 * n)) ≡ zeros n
-unfolding chunks
-chunks_zero zero = refl
-chunks_zero (suc n) =
-    let first : take 32 (bytes (32 * suc n)) ≡ bytes 32 = take-replicate 32 (32 * suc n) 0 (omega arith) in
-    let less : 32 * suc n - 32 ≡ 32 * n = omega arith in
-    let rest : drop 32 (bytes (32 * suc n)) ≡ bytes (32 * n) = drop-replicate 32 (32 * suc n) 0 ∙ ap bytes less in
-    rw (first, rest, chunks_zero n) refl
-
-whole : (n : ℕ) → length (bytes (32 * n)) / 32 ≡ n
-whole n = let size : length (bytes (32 * n)) ≡ 32 * n = length-replicate (32 * n) 0 in omega arith
-
-sectors_zero : (n : ℕ) → sectors (bytes (32 * n)) ≡ zeros n
-unfolding sectors
-sectors_zero n = ap (λ (k : ℕ). chunks k (bytes (32 * n))) (whole n) ∙ chunks_zero n
-
-spare_zero : (n : ℕ) → spare (bytes (32 * n)) ≡ []
-unfolding spare
-spare_zero n =
-    let past : 32 * n - 32 * (length (bytes (32 * n)) / 32) ≡ 0 = let size = whole n in omega arith in
-    drop-replicate (32 * (length (bytes (32 * n)) / 32)) (32 * n) 0 ∙ ap bytes past
 
 -- antt computes the checksum of 28 zero bytes
 zero_not_sound : sound (bytes 32) ≡ false

@@ -1,0 +1,12 @@
+-- Nothing is held back of a new disk, so it keeps what it reads.
+use Rattle.std.proofs.Common.{ap, ◌∙◌}
+use Rattle.disk.specs.Memory.{sectors}
+use Rattle.simulator.proofs.Clearing.{meaning_zeros}
+use Rattle.simulator.proofs.device.cleared_disk.Goals as goal
+
+pub returns : goal.returns
+returns g c =
+    let h = c.in-Ok.ensures.cases in
+    let d = c.in-Ok.disk in
+    meaning_zeros d.sectors.memory.now _ d.supply c.args.sectors (h.0 ∙ c.requires.zeros)
+    (ap (λ held. g.H.HoldBack.before held (sectors d.sectors.memory.now)) h.2 ∙ g.met.H.HoldBack.nothing_before (sectors d.sectors.memory.now)) h.1
