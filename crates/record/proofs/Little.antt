@@ -1,7 +1,7 @@
 -- Numbers of four and eight bytes, the lowest first.
 use Rattle.std.proofs.Common.{◌≡◌, ℕ, zero, suc, ◌+◌, ◌-◌, ◌*◌, ◌/◌, ◌^◌, ◌<◌, ◌≤◌, eqb, List, [], ◌∷◌, length, get_or, take, drop, refl, ap, ◌∙◌, pow-suc, arith}
 use Rattle.std.proofs.lemmas.Nat.{div_below}
-use Rattle.std.proofs.lemmas.List.{get_or-drop, get_or-take, drop-drop, drop_all, length-take, length-drop, take_rest}
+use Rattle.std.proofs.lemmas.List.{get_or-drop, drop-drop, drop_all, take_rest}
 use Rattle.std.proofs.lemmas.Bool.Decides.{nat_tests}
 use Rattle.record.specs.Sector.{little, bytes_of, all_zero}
 
@@ -51,37 +51,6 @@ little_8 xs h =
       little-at xs 6,
       little-at xs 7,
       little_end xs 8 (omega arith),
-    )
-
-part_byte : (xs : List ℕ) (at k : ℕ) → k < 8 → get_or (take 8 (drop at xs)) k 0 ≡ get_or xs (at + k) 0
-part_byte xs at k h = get_or-take 8 (drop at xs) k 0 h ∙ get_or-drop at xs k 0
-
--- the same of eight bytes inside a list
-pub little_part_8 :
-    (xs : List ℕ) (at : ℕ) → at + 8 ≤ length xs →
-    little (take 8 (drop at xs))
-    ≡ get_or xs at 0
-    + get_or xs (at + 1) 0 * 256
-    + get_or xs (at + 2) 0 * 65536
-    + get_or xs (at + 3) 0 * 16777216
-    + get_or xs (at + 4) 0 * 4294967296
-    + get_or xs (at + 5) 0 * 1099511627776
-    + get_or xs (at + 6) 0 * 281474976710656
-    + get_or xs (at + 7) 0 * 72057594037927936
-little_part_8 xs at h =
-    let whole : length (take 8 (drop at xs)) ≡ 8 = simp (length-take, length-drop) (omega arith) in
-    let first : get_or (take 8 (drop at xs)) 0 0 ≡ get_or xs at 0 =
-    part_byte xs at 0 (omega arith) ∙ ap (λ (i : ℕ). get_or xs i 0) (omega arith) in
-    omega (
-      arith,
-      little_8 (take 8 (drop at xs)) whole,
-      part_byte xs at 1 (omega arith),
-      part_byte xs at 2 (omega arith),
-      part_byte xs at 3 (omega arith),
-      part_byte xs at 4 (omega arith),
-      part_byte xs at 5 (omega arith),
-      part_byte xs at 6 (omega arith),
-      part_byte xs at 7 (omega arith),
     )
 
 -- what lies in the rest after the first four bytes lies four further on in the whole

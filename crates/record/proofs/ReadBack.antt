@@ -4,8 +4,7 @@ use Rattle.std.specs.List.{AllByRecursion}
 use Rattle.std.proofs.ByRecursion.{All-append}
 use Rattle.std.proofs.lemmas.Bool.{eq-eqb}
 use Rattle.record.specs.Crc.{crc}
-use Rattle.record.specs.Sector.{little, bytes_of, all_zero, sound, parts, content, body, encoded, ReadsBack}
-use Rattle.record.specs.declared.sector.Parts.{Parts}
+use Rattle.record.specs.Sector.{little, bytes_of, all_zero, sound, Parts, parts, content, body, encoded, ReadsBack}
 use Rattle.record.specs.declared.sector.Record.{Record}
 use Rattle.record.proofs.Little.{little_bytes}
 use Rattle.record.proofs.Register.{crc_lt}

@@ -1,10 +1,9 @@
 -- A sector of 32 bytes, and the record that it holds.
-use Rattle.std.specs.Prelude.{◌≡◌, ℕ, zero, suc, ◌+◌, ◌*◌, ◌/◌, ◌%◌, ◌^◌, Bool, true, cond, ◌&&◌, List, [], ◌∷◌, ◌++◌, take, drop, replicate, ◌==◌, nat_le, nat_lt, slice_index}
+use Rattle.std.specs.Prelude.{◌≡◌, ℕ, zero, suc, ◌+◌, ◌*◌, ◌/◌, ◌%◌, ◌^◌, Bool, true, cond, ◌&&◌, List, [], ◌∷◌, ◌++◌, Some, None, Option, take, drop, replicate, ◌==◌, nat_le, nat_lt, slice_index}
 use Rattle.record.specs.Crc.{crc}
 use Rattle.record.specs.declared.sector.Content.{Content}
 use Rattle.record.specs.declared.sector.Content.TheVariants.{Blank, Foreign, Record as Holds}
 use Rattle.record.specs.declared.sector.Format.{Format}
-use Rattle.record.specs.declared.sector.Parts.{Parts}
 use Rattle.record.specs.declared.sector.Record.{Record}
 
 -- the number that bytes stand for, the lowest byte first
@@ -30,6 +29,12 @@ bytes_at at count s = take count (drop at s)
 unfoldable pub sound : List ℕ → Bool
 sound s = crc (take 28 s) == little (drop 28 s)
 
+-- a sector taken apart: its tag, whether the bytes that a record leaves free are zero, and the record's fields
+pub record Parts : Type 0 where
+  pub tag : ℕ
+  pub zeroed : Bool
+  pub «record» : Record
+
 -- tag and series stand in bytes 0 and 1, the sequence number in 4 to 11, the end in 12 to 19; bytes 2 and 3 and 20 to 27 have to be zero
 unfoldable pub parts : List ℕ → Parts
 parts s =
@@ -43,6 +48,10 @@ parts s =
             end = record { 0 = little (bytes_at 12 8 s) };
           };
     }
+
+-- the tag and the record, where those bytes are zero
+abbrev pub told_by : Parts → Option (ℕ × Record)
+told_by p = cond p.zeroed (Some (p.tag, p.«record»)) None
 
 -- a sequence number names one of n sectors
 abbrev pub names : ℕ → ℕ → ℕ → Bool

@@ -1,6 +1,6 @@
 // A record and the 32 bytes of its sector.
 ghost use Rattle.std.specs.Prelude.{◌≡◌, ◌+◌, ◌≤◌, ◌&&◌, length, replicate, ◌==◌};
-ghost use Rattle.record.specs.Sector.{sound, lawful, little, bytes_at, parts, content, encoded, ReadsBack, AlwaysBlank};
+ghost use Rattle.record.specs.Sector.{sound, lawful, little, bytes_at, parts, told_by, content, encoded, ReadsBack, AlwaysBlank};
 
 use crate::crc::crc32;
 use crate::numbers::{Rank, Sequence};
@@ -32,14 +32,6 @@ pub enum Content {
     Record(Record),
 }
 
-// A sector taken apart: its tag, whether its spare bytes are zero, and the record's fields.
-#[derive(Clone, Copy)]
-struct Parts {
-    tag: u8,
-    zeroed: bool,
-    record: Record,
-}
-
 // The greatest sequence number that a record may have.
 pub const LAST_SEQUENCE: u64 = 0x3fff_ffff_ffff_ffff;
 
@@ -47,8 +39,10 @@ pub const LAST_SEQUENCE: u64 = 0x3fff_ffff_ffff_ffff;
 pub fn is_sound(sector: &[u8; SECTOR_BYTES]) -> bool
     ensures { result ≡ sound sector.now }
 {
-    let checksum = u32::from_le_bytes([sector[28], sector[29], sector[30], sector[31]]);
-    crc32(&sector[0..28]) == checksum
+    let Some((body, checksum)) = sector.split_last_chunk() else {
+        unreachable()
+    };
+    crc32(body) == u32::from_le_bytes(*checksum)
 }
 
 // Whether a record's numbers are in their ranges, and its sequence number names the sector that it lies in.
@@ -58,8 +52,7 @@ fn is_lawful(format: Format, sector: usize, record: Record) -> bool
     let number = record.sequence.0;
     let end = record.end.0;
     record.series < 8
-        && 1 <= number
-        && number <= LAST_SEQUENCE
+        && (1..=LAST_SEQUENCE).contains(&number)
         && 1 <= end
         && end - 1 <= format.top.0
         && format.sectors > 0
@@ -71,16 +64,10 @@ fn number_at(bytes: &[u8], at: usize) -> u64
     requires { at + 8 ≤ length bytes.now }
     ensures { result ≡ little (bytes_at at 8 bytes.now) }
 {
-    u64::from_le_bytes([
-        bytes[at],
-        bytes[at + 1],
-        bytes[at + 2],
-        bytes[at + 3],
-        bytes[at + 4],
-        bytes[at + 5],
-        bytes[at + 6],
-        bytes[at + 7],
-    ])
+    let Some(number) = bytes[at..].first_chunk() else {
+        unreachable()
+    };
+    u64::from_le_bytes(*number)
 }
 
 // Whether the bytes that a record leaves free are zero: two single ones, and eight as one number.
@@ -90,42 +77,38 @@ fn are_zero(first: u8, second: u8, others: u64) -> bool
     first == 0 && second == 0 && others == 0
 }
 
-// The parts of a sector, as its bytes have them.
-fn take_apart(sector: &[u8]) -> Parts
+// The tag and the record that a sector's bytes tell; none where a byte that a record leaves free is not zero.
+fn take_apart(sector: &[u8]) -> Option<(u8, Record)>
     requires { length sector.now ≡ 32 }
-    ensures { result ≡ parts sector.now }
+    ensures { result ≡ told_by (parts sector.now) }
 {
     let [tag, series, zero, also_zero, rest @ ..] = sector else {
         unreachable()
     };
+    if !are_zero(*zero, *also_zero, number_at(rest, 16)) {
+        return None;
+    }
     let record = Record {
         series: *series,
         sequence: Sequence(number_at(rest, 0)),
         end: Rank(number_at(rest, 8)),
     };
-    Parts {
-        tag: *tag,
-        zeroed: are_zero(*zero, *also_zero, number_at(rest, 16)),
-        record,
-    }
+    Some((*tag, record))
 }
 
 // What a sector of this disk holds.
+#[tactic(auto, unfolding(crate::specs::Sector::content))]
 pub fn classify(format: Format, sector: usize, bytes: &[u8; SECTOR_BYTES]) -> Content
     ensures { result ≡ content format sector bytes.now }
 {
     if !is_sound(bytes) {
         return Content::Blank;
     }
-    let Parts {
-        tag,
-        zeroed,
-        record,
-    } = take_apart(bytes);
-    if tag == format.tag && zeroed && is_lawful(format, sector, record) {
-        Content::Record(record)
-    } else {
-        Content::Foreign
+    match take_apart(bytes) {
+        Some((tag, record)) if tag == format.tag && is_lawful(format, sector, record) => {
+            Content::Record(record)
+        }
+        _ => Content::Foreign,
     }
 }
 
