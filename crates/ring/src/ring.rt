@@ -8,7 +8,7 @@ ghost use Rattle.ring.specs.Operations.{Writes, Denied};
 ghost use Rattle.ring.specs.Search.{MaySearch, Cleared, Stopped, MayReserve, Begun, Ended, refusal, admitted};
 ghost use Rattle.ring.specs.declared.fault.Work.TheVariants.{Carry};
 ghost use Rattle.record.specs.Sector.{content};
-ghost use Rattle.ring.specs.Ring.{named, known_gap, beyond, top, scanned, foreign_below, recovered, known_end, Agrees};
+ghost use Rattle.ring.specs.Ring.{named, known_gap, beyond, top, scanned, foreign_below, recovered, known_end, known_ends, Agrees};
 
 use crate::fault::{Interrupted, RingFault, Work, during};
 use crate::known::Known;
@@ -94,6 +94,13 @@ impl Ring {
         ensures reads { (m : Meaning) → Agrees self.now m → series < 8 → result.0 ≡ end_of self.now.format m.reading series }
     {
         self.known.end(series)
+    }
+
+    // The ends of all eight series, in their order.
+    pub fn ends(&self) -> [Rank; 8]
+        ensures { result ≡ known_ends self.now.known }
+    {
+        self.known.lives.map(|live| live.end)
     }
 
     // What the sector after the gap holds.
