@@ -1,5 +1,5 @@
 -- A reservation from the end of its search: written and flushed, or stopped at one of the two.
-use Rattle.std.proofs.Common.{◌≡◌, ℕ, suc, ◌+◌, ◌-◌, ◌^◌, ◌<◌, ◌≤◌, Bool, true, false, cond, ◌&&◌, ltb, leb, List, [], ◌∷◌, length, Some, None, Ok, Err, Option, Result, sym, refl, ap, ◌∙◌, subst, arith}
+use Rattle.std.proofs.Common.{◌≡◌, ℕ, suc, ◌+◌, ◌-◌, ◌^◌, ◌<◌, ◌≤◌, Bool, true, false, cond, ◌&&◌, ltb, leb, List, [], ◌∷◌, length, Some, None, Ok, Err, Option, Result, MatchResult, sym, refl, ap, ◌∙◌, subst, arith}
 use Rattle.std.proofs.lemmas.Bool.{ltb-true, leb-true}
 use Rattle.record.specs.Sector.{encoded}
 use Rattle.record.specs.declared.numbers.Rank.{Rank}
@@ -182,10 +182,19 @@ module _ (f : Format) (s : ℕ) (end : Rank) (whole : Meaning) (r : Ring) (m : M
         subst (λ (y : Format). Ended y s end whole (Ok (record { series = s; end = end })) r' m'') cleared.format
         (ended_well s end whole r m own series own_numbers some own_ends r' m' writes m'' flushed)
 
+-- what `map_err` passed on, or made its denial of
+pub passed_on : {A E : Type 0} (D : Type 0) (x : Result A E) (a : A) → MatchResult x (λ y. ◌≡◌ {A = Result A D} (Ok a) (Ok y)) (λ _. ⊥) → x ≡ Ok a
+passed_on D (Ok y) a h = cc
+passed_on D (Err e) a h = absurd h
+
+pub made_of : {A E D : Type 0} (x : Result A E) (d : D) (Q : E → Type 0) → MatchResult x (λ y. ◌≡◌ {A = Result A D} (Err d) (Ok y)) Q → (e : E) × (x ≡ Err e) × Q e
+made_of (Ok y) d Q h = absurd (let z : ◌≡◌ {A = ℕ} 0 1 = cc in omega arith)
+made_of (Err e) d Q h = (e, refl, h)
+
 -- what was admitted was not refused
-pub not_refused : (x : Option RingFault) (fault : RingFault) → Ok tt ≡ admitted x → x ≡ Some fault → ⊥
-not_refused None fault e h = let z : ◌≡◌ {A = ℕ} 0 1 = cc in omega arith
-not_refused (Some other) fault e h = let z : ◌≡◌ {A = ℕ} 0 1 = cc in omega arith
+pub is_admitted : {A : Type 0} (x : Option RingFault) (asked a : A) → Ok a ≡ admitted asked x → (x ≡ None) × (a ≡ asked)
+is_admitted None asked a e = (refl, cc)
+is_admitted (Some fault) asked a e = absurd (let z : ◌≡◌ {A = ℕ} 0 1 = cc in omega arith)
 
 refusal_tests : (a b c : Bool) (x y z : RingFault) → cond a (cond b (cond c None (Some x)) (Some y)) (Some z) ≡ None → (a ≡ true) × (b ≡ true) × (c ≡ true)
 refusal_tests true true true x y z e = (refl, refl, refl)
@@ -215,7 +224,7 @@ module _ (r : Ring) (s : ℕ) (end : Rank) (whole : Meaning) (may : MayReserve r
   sector_is : w.sector ≡ known_gap begun.ring
   sector_is = ap (λ (x : Written). x.sector) begun.token
 
-  confirmed_well : (answer : Result (Unit {0}) DiskFault) (reserved : Reserved) → Ok reserved ≡ confirmed w answer → reserved ≡ record { series = w.series; end = w.end }
+  confirmed_well : (answer : Result (Unit {0}) DiskFault) (reserved : Reserved) → Ok reserved ≡ confirmed w answer → reserved ≡ record { series = w.claim.series; end = w.claim.end }
   confirmed_well (Ok done) reserved e = cc
   confirmed_well (Err fault) reserved e = absurd (let z : ◌≡◌ {A = ℕ} 0 1 = cc in omega arith)
 
@@ -231,7 +240,7 @@ module _ (r : Ring) (s : ℕ) (end : Rank) (whole : Meaning) (may : MayReserve r
   confirm_done reserved m'' e flushed =
       let is : reserved ≡ record { series = s; end = end } =
       confirmed_well (answer_of Flush m' w.sector) reserved e
-      ∙ ap (λ (x : Written). record_reserved x.series x.end) begun.token in
+      ∙ ap (λ (x : Written). record_reserved x.claim.series x.claim.end) begun.token in
       subst (λ (x : Reserved). Ended r.format s end whole (Ok x) r' m'') (sym is)
       (flush_done r.format s end whole begun.ring begun.meaning begun.cleared may.series may.numbers may.some may.ends r' m' begun.writes m'' flushed)
     where
@@ -240,11 +249,11 @@ module _ (r : Ring) (s : ℕ) (end : Rank) (whole : Meaning) (may : MayReserve r
 
   pub confirm_denied :
       (u : Unconfirmed) (x : Stop) (m'' : Meaning) → Err u ≡ confirmed w (answer_of Flush m' w.sector) → m'' ≡ m' →
-      x ≡ record { work = Reservation u.written.series; fault = u.fault } →
+      x ≡ record { work = Reservation u.written.claim.series; fault = u.fault } →
       Ended r.format s end whole (Err (Interrupted x)) r' m''
   confirm_denied u x m'' e same given =
       let told = confirmed_ill (answer_of Flush m' w.sector) u e in
-      let series_is : u.written.series ≡ s = ap (λ (y : Written). y.series) (told.1 ∙ begun.token) in
+      let series_is : u.written.claim.series ≡ s = ap (λ (y : Written). y.claim.series) (told.1 ∙ begun.token) in
       let is : x ≡ record { work = Reservation s; fault = u.fault } =
       given ∙ ap (λ (n : ℕ). stop_of n u.fault) series_is in
       let answer : answer_of Flush m' (known_gap begun.ring) ≡ Err u.fault = ap (answer_of Flush m') (sym sector_is) ∙ told.0 in

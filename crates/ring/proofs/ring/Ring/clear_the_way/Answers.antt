@@ -21,7 +21,7 @@ returns-in_err-content g c =
 pub loop-content-smaller : goal.loop-content-smaller
 loop-content-smaller g c =
     carries_less c.loop-content.self.known c.carry.new.self.known c.args.series c.args.self.now.known.top.0
-    c.in-Some.record
+    c.in-Some.entry
     c.to_carry.ensures.eight
     (omega (arith, c.requires))
     c.loop-content.invariant.0
@@ -31,7 +31,7 @@ loop-content-smaller g c =
 -- the code carried what the rule asks for
 pub loop-content-preserved : goal.loop-content-preserved
 loop-content-preserved g c = (
-  noted_since c.loop-content.self.known c.carry.new.self.known c.in-Some.record.series c.in-Some.record.end
+  noted_since c.loop-content.self.known c.carry.new.self.known c.in-Some.entry.series c.in-Some.entry.end
       c.args.self.now.known.top.0
       (omega (arith, c.requires))
       c.loop-content.invariant.0
@@ -40,7 +40,7 @@ loop-content-preserved g c = (
       let search = c.loop-content.invariant.1 may in
       let read = ok_same (c.in_ok-content.ensures search.agrees (search_low _ _ _ _ _ search may.numbers)) in
       let finds = turn_finds _ _ _ _ _ search may.numbers _ _ (ap (λ k. k.top.0) may.agrees.knows) read in
-      turn_goes_on _ _ _ _ _ search may.numbers c.in-Some.record (sym finds ∙ sym c.in-Some.ensures.value) _
+      turn_goes_on _ _ _ _ _ search may.numbers c.in-Some.entry (sym finds ∙ sym c.in-Some.ensures.value) _
       c.in_ok-carry-in-Some.ensures.effect.0
       _
       c.in_ok-carry-in-Some.ensures.effect.1
@@ -57,7 +57,7 @@ returns-in_err-carry-in-Some g c =
           let read = ok_same (c.in_ok-content.ensures search.agrees (search_low _ _ _ _ _ search may.numbers)) in
           let finds = turn_finds _ _ _ _ _ search may.numbers _ _ (ap (λ k. k.top.0) may.agrees.knows) read in
           rw (p.1, p.2)
-          (turn_stops _ _ _ _ _ search may.numbers c.in-Some.record (sym finds ∙ sym c.in-Some.ensures.value)
+          (turn_stops _ _ _ _ _ search may.numbers c.in-Some.entry (sym finds ∙ sym c.in-Some.ensures.value)
           c.in_err-carry-in-Some.field-0.0 _ _
           c.in_err-carry-in-Some.ensures.work
           c.in_err-carry-in-Some.ensures.effect);
