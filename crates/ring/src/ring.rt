@@ -146,8 +146,7 @@ impl Ring {
         let work = Work::Carry(claim.series);
         let gap = self.gap();
         self.write_record(disk, gap, work, claim)?;
-        during(work, disk.flush(gap))?;
-        Ok(())
+        during(work, disk.flush(gap))
     }
 
     // Looks at the sector after the gap, and carries what is live there of another series, until nothing is; tells the gap.
