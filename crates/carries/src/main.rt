@@ -2,12 +2,14 @@
 // of its sixteen writes and flushes in turn.
 #![tactic(auto)]
 
-use disk::{Disk, FaithfulDisk, Operation, TornDisk};
-use record::Rank;
+use disk::{BadSize, Disk, FaithfulDisk, Operation, TornDisk};
+use record::{Rank, SECTOR_BYTES};
 use ring::{Reserved, Ring, RingFault, Work};
-use std::io;
+use std::{fmt, io};
 
 const SECTORS: usize = 10;
+
+const BYTES: usize = SECTORS * SECTOR_BYTES;
 
 const TAG: u8 = 1;
 
@@ -15,11 +17,59 @@ const TOP: Rank = Rank(999_999_998);
 
 const SUPPLY: u64 = 1_000;
 
+// What a reservation answers: that it is made, or where it was stopped.
+#[derive(Clone, Copy)]
+struct Answer(Result<Reserved, RingFault>);
+
+// What recovery finds: the top record and the eight ends, or why there is no ring.
+#[derive(Clone, Copy)]
+struct Recovered(Result<Ring, RingFault>);
+
+// The name of what was asked of a disk.
 fn operation_name(operation: Operation) -> &'static str {
     match operation {
         Operation::Read => "read",
         Operation::Write => "write",
         Operation::Flush => "flush",
+    }
+}
+
+impl fmt::Display for Answer {
+    // Blanks after the shorter texts keep what follows in one column.
+    fn fmt<W: fmt::Write>(&self, f: &mut fmt::Formatter<W>) -> fmt::Result {
+        match self.0 {
+            Ok(reserved) => write!(
+                f,
+                "series {} has reserved                     ",
+                reserved.series
+            ),
+            Err(RingFault::Interrupted(stopped)) => {
+                let operation = operation_name(stopped.fault.operation);
+                let sector = stopped.fault.sector;
+                write!(f, "dark at the {operation} of sector {sector}, ")?;
+                match stopped.work {
+                    Work::Carry(series) => write!(f, "carry of {series} "),
+                    Work::Reservation(_) => f.write_str("reservation"),
+                }
+            }
+            Err(fault) => write!(f, "denied with {}", fault.number()),
+        }
+    }
+}
+
+impl fmt::Display for Recovered {
+    // The ends stand in the order of their series.
+    fn fmt<W: fmt::Write>(&self, f: &mut fmt::Formatter<W>) -> fmt::Result {
+        match self.0 {
+            Ok(ring) => {
+                write!(f, "top record {:>2}, ends", ring.top_record().0)?;
+                for end in ring.ends() {
+                    write!(f, " {}", end.0)?;
+                }
+                Ok(())
+            }
+            Err(fault) => write!(f, "denied with {}", fault.number()),
+        }
     }
 }
 
@@ -33,56 +83,16 @@ fn fill<D: Disk>(disk: &mut D, ring: &mut Ring) -> Result<(), RingFault> {
     Ok(())
 }
 
-// The sectors' top record and the eight ends.
-fn print_ends(rt: &HostRuntime, ring: &Ring) -> io::Result<()> {
-    let top = ring.top_record().0;
-    print!(rt; "top record {top:>2}, ends")?;
-    for series in 0..8u8 {
-        let end = ring.end(series).0;
-        print!(rt; " {end}")?;
-    }
-    println!(rt; "")
-}
-
-// Where a reservation was stopped.
-fn print_answer(rt: &HostRuntime, answer: Result<Reserved, RingFault>) -> io::Result<()> {
-    match answer {
-        Ok(reserved) => {
-            let series = reserved.series;
-            print!(rt; "series {series} has reserved                     ")
-        }
-        Err(RingFault::Interrupted(stopped)) => {
-            let operation = operation_name(stopped.fault.operation);
-            let sector = stopped.fault.sector;
-            match stopped.work {
-                Work::Carry(series) => print!(rt;
-                    "dark at the {operation} of sector {sector}, carry of {series} "
-                ),
-                Work::Reservation(_) => print!(rt;
-                    "dark at the {operation} of sector {sector}, reservation"
-                ),
-            }
-        }
-        Err(fault) => {
-            let number = fault.number();
-            print!(rt; "denied with {number}")
-        }
-    }
-}
-
-// What recovery finds.
-fn print_recovered<D: Disk>(rt: &HostRuntime, disk: &D) -> io::Result<()> {
-    match Ring::recover(disk, TAG, TOP) {
-        Ok(ring) => print_ends(rt, &ring),
-        Err(fault) => {
-            let number = fault.number();
-            println!(rt; "denied with {number}")
-        }
-    }
-}
-
-// The ring is filled; then the reservation with seven carries, with so much supply, and a cut after it.
-fn stop_at<D: Disk>(rt: &HostRuntime, disk: &mut D, supply: u64, tear: u64) -> io::Result<()> {
+// On a new disk the ring is filled; then the reservation with seven carries, with so much supply, and a cut after it.
+fn stop_at<D: Disk>(
+    rt: &HostRuntime,
+    disk: &mut Result<D, BadSize<'_>>,
+    supply: u64,
+    tear: u64,
+) -> io::Result<()> {
+    let Ok(disk) = disk else {
+        return println!(rt; "no disk");
+    };
     let Ok(mut ring) = Ring::recover(disk, TAG, TOP) else {
         return println!(rt; "no ring");
     };
@@ -93,28 +103,10 @@ fn stop_at<D: Disk>(rt: &HostRuntime, disk: &mut D, supply: u64, tear: u64) -> i
     let Ok(mut ring) = Ring::recover(disk, TAG, TOP) else {
         return println!(rt; "the ring does not recover");
     };
-    let answer = ring.reserve(disk, 7, Rank(3));
-    print!(rt; "supply {supply:>2} | ")?;
-    print_answer(rt, answer)?;
+    let answer = Answer(ring.reserve(disk, 7, Rank(3)));
     disk.cut(tear, SUPPLY);
-    print!(rt; " | tear {tear:>2}: ")?;
-    print_recovered(rt, disk)
-}
-
-fn on_torn(rt: &HostRuntime, supply: u64, tear: u64) -> io::Result<()> {
-    let mut memory = [0; 320];
-    match TornDisk::new(&mut memory, SECTORS, SUPPLY) {
-        Ok(mut disk) => stop_at(rt, &mut disk, supply, tear),
-        Err(_) => println!(rt; "no disk"),
-    }
-}
-
-fn on_faithful(rt: &HostRuntime, supply: u64, tear: u64) -> io::Result<()> {
-    let mut memory = [0; 320];
-    match FaithfulDisk::new(&mut memory, SECTORS, SUPPLY) {
-        Ok(mut disk) => stop_at(rt, &mut disk, supply, tear),
-        Err(_) => println!(rt; "no disk"),
-    }
+    let recovered = Recovered(Ring::recover(disk, TAG, TOP));
+    println!(rt; "supply {supply:>2} | {answer} | tear {tear:>2}: {recovered}")
 }
 
 fn main(rt: HostRuntime) -> io::Result<()> {
@@ -129,20 +121,35 @@ fn main(rt: HostRuntime) -> io::Result<()> {
     println!(rt;
         "Torn disk. The current fails at each of the 16 in turn; a cut tears the last write at byte 20; recovery:"
     )?;
-    for supply in 0..17u64 {
-        on_torn(&rt, supply, 20)?;
+    for supply in 0..17 {
+        stop_at(
+            &rt,
+            &mut TornDisk::new(&mut [0; BYTES], SECTORS, SUPPLY),
+            supply,
+            20,
+        )?;
     }
     println!(rt; "")?;
     println!(rt;
         "Torn disk. The current fails at the last flush; the cut tears the reservation at byte 0 to 32:"
     )?;
-    for tear in 0..33u64 {
-        on_torn(&rt, 15, tear)?;
+    for tear in 0..33 {
+        stop_at(
+            &rt,
+            &mut TornDisk::new(&mut [0; BYTES], SECTORS, SUPPLY),
+            15,
+            tear,
+        )?;
     }
     println!(rt; "")?;
     println!(rt; "Faithful disk. The current fails at each of the 16 in turn:")?;
-    for supply in 0..17u64 {
-        on_faithful(&rt, supply, 20)?;
+    for supply in 0..17 {
+        stop_at(
+            &rt,
+            &mut FaithfulDisk::new(&mut [0; BYTES], SECTORS, SUPPLY),
+            supply,
+            20,
+        )?;
     }
     Ok(())
 }

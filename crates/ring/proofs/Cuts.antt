@@ -95,7 +95,7 @@ module _ (f : Format) (reading : List (List ℕ)) (recovers : Recovers f reading
       ⊎_elim
       (λ same.
       let n : None ≡ Some r = sym empty ∙ ap (slot f after) (sym same) ∙ e in
-      absurd (let z : ◌≡◌ {A = ℕ} 0 1 = cc in omega arith))
+      absurd cc)
       (λ ne. (ne, omega (arith, same_length), sym (other k ne) ∙ e))
       (cases_eq k (gap f reading))
 
@@ -150,7 +150,7 @@ module _ (f : Format) (reading : List (List ℕ)) (recovers : Recovers f reading
             };
         free = λ r e.
             let n : None ≡ Some r = sym empty ∙ ap (slot f after) (sym same_gap) ∙ e in
-            absurd (let z : ◌≡◌ {A = ℕ} 0 1 = cc in omega arith);
+            absurd cc;
         native = λ k l.
             ⊎_elim
             (λ same.

@@ -2,6 +2,7 @@
 use Rattle.std.proofs.Common.{◌≡◌, ℕ, zero, suc, ◌+◌, ◌<◌, ◌≤◌, Bool, true, false, cond, not, ◌&&◌, eqb, ltb, leb, ◌≢◌, List, [], ◌∷◌, length, get_or, set, Some, None, Option, sym, refl, ap, ◌∙◌, subst, ⊎_elim, arith}
 use Rattle.std.proofs.lemmas.List.FromFn.{get_or-map-range_with_len, length-map-range_with_len}
 use Rattle.std.proofs.lemmas.List.{get_or-set_same, get_or-set_other, length-set, same_lists}
+use Rattle.std.proofs.Math.Bool.{and-true}
 use Rattle.std.proofs.lemmas.Bool.{cases_eq, cases_Bool, eq-eqb, ne_eqb, eqb-true, eqb-false, le-leb, lt-leb, lt-ltb}
 use Rattle.record.specs.Sector.{content, encoded}
 use Rattle.record.specs.declared.sector.Content.{Content}
@@ -66,10 +67,6 @@ module _ (f : Format) (reading : List (List ℕ)) (sized : Sized f reading) (s e
       ∙ native k (omega (arith, same_length f reading sized s end w)))
       (cases_eq k (gap f reading))
 
-and_true : (b : Bool) → (b && true) ≡ b
-and_true true = refl
-and_true false = refl
-
 -- by what is known, the code finds what the rule carries: the record after the gap is older than the search
 module _ (f : Format) (reading : List (List ℕ)) (sized : Sized f reading) (s start : ℕ) (near : top f reading ≤ start + 7) where
   finds : (c : Content) → content f (beyond f reading) (at reading (beyond f reading)) ≡ c → carry_of (known f reading) s start c ≡ to_carry f reading s (record_in c)
@@ -81,7 +78,7 @@ module _ (f : Format) (reading : List (List ℕ)) (sized : Sized f reading) (s s
       let series : ltb r.series 8 ≡ true = lt-ltb r.series 8 p.series in
       let old : leb r.sequence.0 start ≡ true = le-leb r.sequence.0 start (omega (arith, old_beyond f reading sized r there)) in
       let lives = knows_live f reading r.series p.series in
-      rw (series, old, lives, and_true (is_live f reading r)) refl
+      rw (series, old, lives, and-true (is_live f reading r)) refl
 
   pub carry_is : carry_of (known f reading) s start (content f (beyond f reading) (at reading (beyond f reading))) ≡ carried f reading s
   unfolding slot
@@ -94,14 +91,12 @@ pub carried_is :
 carried_is f reading s r e = from_slot (slot f reading (beyond f reading)) refl e
   where
     tests : (q : Record) (a b : Bool) → cond (not a && b) (Some q) None ≡ Some r → (q ≡ r) × (a ≡ false) × (b ≡ true)
-    tests q false true h = (cc, refl, refl)
-    tests q false false h = absurd (let z : ◌≡◌ {A = ℕ} 0 1 = cc in omega arith)
-    tests q true b h = absurd (let z : ◌≡◌ {A = ℕ} 0 1 = cc in omega arith)
+    tests q a b h = grind arith
 
     from_slot :
         (x : Option Record) → slot f reading (beyond f reading) ≡ x → to_carry f reading s x ≡ Some r →
         (slot f reading (beyond f reading) ≡ Some r) × (r.series ≢ s) × (r.sequence.0 ≡ (live f reading r.series).number.0)
-    from_slot None at-beyond h = absurd (let z : ◌≡◌ {A = ℕ} 0 1 = cc in omega arith)
+    from_slot None at-beyond h = absurd cc
     from_slot (Some q) at-beyond h =
         let t = tests q (eqb q.series s) (is_live f reading q) h in
         subst
@@ -117,7 +112,7 @@ clear_from f reading s e q at-beyond ne =
     last_test (is_live f reading q) (rw other at there)
   where
     last_test : (b : Bool) → cond b (Some q) None ≡ None → b ≡ false
-    last_test true h = absurd (let z : ◌≡◌ {A = ℕ} 0 1 = cc in omega arith)
+    last_test true h = absurd cc
     last_test false h = refl
 
 -- how many are left to carry

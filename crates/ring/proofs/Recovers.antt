@@ -22,13 +22,11 @@ top_low f reading =
 
 scan_tells : (f : Format) (reading : List (List ℕ)) (x : Option ℕ) (k : Known) → Ok k ≡ scanned f reading x → (x ≡ None) × (k ≡ known f reading)
 scan_tells f reading None k e = (refl, cc)
-scan_tells f reading (Some i) k e = absurd (let z : ◌≡◌ {A = ℕ} 0 1 = cc in omega arith)
+scan_tells f reading (Some i) k e = absurd cc
 
 -- none foreign below
 first-none : (x : Option ℕ) (b : Bool) (n : ℕ) → first_of x (cond b (Some n) None) ≡ None → (x ≡ None) × (b ≡ false)
-first-none None false n e = (refl, refl)
-first-none None true n e = absurd (let z : ◌≡◌ {A = ℕ} 0 1 = cc in omega arith)
-first-none (Some i) b n e = absurd (let z : ◌≡◌ {A = ℕ} 0 1 = cc in omega arith)
+first-none x b n e = grind arith
 
 native_below : (f : Format) (reading : List (List ℕ)) (n : ℕ) → foreign_below f reading n ≡ None → (k : ℕ) → k < n → is_foreign (content f k (at reading k)) ≡ false
 unfolding foreign_below

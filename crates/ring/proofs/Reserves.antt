@@ -1,6 +1,6 @@
 -- A reservation from the end of its search: written and flushed, or stopped at one of the two.
-use Rattle.std.proofs.Common.{◌≡◌, ℕ, suc, ◌+◌, ◌-◌, ◌^◌, ◌<◌, ◌≤◌, Bool, true, false, cond, ◌&&◌, ltb, leb, List, [], ◌∷◌, length, Some, None, Ok, Err, Option, Result, sym, refl, ap, ◌∙◌, subst, arith}
-use Rattle.std.proofs.lemmas.Bool.{ltb-true, leb-true}
+use Rattle.std.proofs.Common.{◌≡◌, ℕ, suc, ◌+◌, ◌-◌, ◌^◌, ◌<◌, ◌≤◌, Bool, true, cond, ◌&&◌, ltb, leb, List, [], ◌∷◌, length, Some, None, Ok, Err, Option, Result, MatchResult, sym, refl, ap, ◌∙◌, subst, arith}
+use Rattle.std.proofs.lemmas.Bool.{and_parts, ltb-true, leb-true}
 use Rattle.record.specs.Sector.{encoded}
 use Rattle.record.specs.declared.numbers.Rank.{Rank}
 use Rattle.record.specs.declared.sector.Format.{Format}
@@ -10,7 +10,7 @@ use Rattle.disk.specs.declared.fault.DiskFault.{DiskFault}
 use Rattle.disk.specs.declared.fault.Operation.TheVariants.{Write, Flush}
 use Rattle.ring.specs.Operations.{Op, Went, performed, outcome, Writes}
 use Rattle.ring.specs.Ring.{top, gap, next, known_gap, reserving, Agrees, Step}
-use Rattle.ring.specs.Search.{Cleared, Stopped, Begun, Ended, MaySearch, MayReserve, refusal, admitted}
+use Rattle.ring.specs.Search.{Cleared, Begun, Ended, MaySearch, MayReserve, refusal, admitted}
 use Rattle.ring.specs.Token.{confirmed}
 use Rattle.ring.specs.Faults.{with_work}
 use Rattle.ring.specs.declared.fault.Interrupted.{Interrupted as Stop}
@@ -28,18 +28,6 @@ use Rattle.ring.proofs.Writes.{Clear, Writable, gap_lies, same_length}
 
 pub may_search : (r : Ring) (m : Meaning) (s : ℕ) (end : Rank) → MayReserve r m s end → MaySearch r m s
 may_search r m s end may = record { agrees = may.agrees; series = may.series; numbers = may.numbers }
-
--- a search that was stopped ends the reservation
-pub ended_from_stopped :
-    (f : Format) (s : ℕ) (end : Rank) (whole : Meaning) (fault : RingFault) (r : Ring) (m : Meaning) →
-    Stopped f s whole fault r m → Ended f s end whole (Err fault) r m
-ended_from_stopped f s end whole fault r m stopped =
-    record {
-      agrees = stopped.agrees;
-      format = stopped.format;
-      answers = stopped.answers (record { series = s; end = end }) end.0;
-      goes = stopped.goes end.0;
-    }
 
 -- from a search that has ended
 module _ (s : ℕ) (end : Rank) (whole : Meaning) (r : Ring) (m : Meaning) (cleared : Cleared r.format s whole r m) (series : s < 8) (numbers : top r.format whole.reading + 8 < 2 ^ 62) (some : 1 ≤ end.0) (ends : end.0 ≤ r.format.top.0 + 1) where
@@ -137,7 +125,7 @@ module _ (s : ℕ) (end : Rank) (whole : Meaning) (r : Ring) (m : Meaning) (clea
 
 -- a denial that came with its work
 pub work_and_fault : (work : Work) (answer : Result (Unit {0}) DiskFault) (x : Stop) → Err x ≡ with_work work answer → (x ≡ record { work = work; fault = x.fault }) × (answer ≡ Err x.fault)
-work_and_fault work (Ok done) x e = absurd (let z : ◌≡◌ {A = ℕ} 0 1 = cc in omega arith)
+work_and_fault work (Ok done) x e = absurd cc
 work_and_fault work (Err fault) x e =
     let same : x ≡ record { work = work; fault = fault } = cc in
     let told : x.fault ≡ fault = ap (λ (y : Stop). y.fault) same in
@@ -182,25 +170,27 @@ module _ (f : Format) (s : ℕ) (end : Rank) (whole : Meaning) (r : Ring) (m : M
         subst (λ (y : Format). Ended y s end whole (Ok (record { series = s; end = end })) r' m'') cleared.format
         (ended_well s end whole r m own series own_numbers some own_ends r' m' writes m'' flushed)
 
+-- what `map_err` passed on, or made its denial of
+pub passed_on : {A E : Type 0} (D : Type 0) (x : Result A E) (a : A) → MatchResult x (λ y. ◌≡◌ {A = Result A D} (Ok a) (Ok y)) (λ _. ⊥) → x ≡ Ok a
+passed_on D (Ok y) a h = cc
+passed_on D (Err e) a h = absurd h
+
+pub made_of : {A E D : Type 0} (x : Result A E) (d : D) (Q : E → Type 0) → MatchResult x (λ y. ◌≡◌ {A = Result A D} (Err d) (Ok y)) Q → (e : E) × (x ≡ Err e) × Q e
+made_of (Ok y) d Q h = absurd cc
+made_of (Err e) d Q h = (e, refl, h)
+
 -- what was admitted was not refused
-pub not_refused : (x : Option RingFault) (fault : RingFault) → Ok tt ≡ admitted x → x ≡ Some fault → ⊥
-not_refused None fault e h = let z : ◌≡◌ {A = ℕ} 0 1 = cc in omega arith
-not_refused (Some other) fault e h = let z : ◌≡◌ {A = ℕ} 0 1 = cc in omega arith
+pub is_admitted : {A : Type 0} (x : Option RingFault) (asked a : A) → Ok a ≡ admitted asked x → (x ≡ None) × (a ≡ asked)
+is_admitted None asked a e = (refl, cc)
+is_admitted (Some fault) asked a e = absurd cc
 
 refusal_tests : (a b c : Bool) (x y z : RingFault) → cond a (cond b (cond c None (Some x)) (Some y)) (Some z) ≡ None → (a ≡ true) × (b ≡ true) × (c ≡ true)
-refusal_tests true true true x y z e = (refl, refl, refl)
-refusal_tests true true false x y z e = absurd (let n : ◌≡◌ {A = ℕ} 0 1 = cc in omega arith)
-refusal_tests true false c x y z e = absurd (let n : ◌≡◌ {A = ℕ} 0 1 = cc in omega arith)
-refusal_tests false b c x y z e = absurd (let n : ◌≡◌ {A = ℕ} 0 1 = cc in omega arith)
-
-both : (a b : Bool) → (a && b) ≡ true → (a ≡ true) × (b ≡ true)
-both true b e = (refl, e)
-both false b e = absurd (let n : ◌≡◌ {A = ℕ} 0 1 = cc in omega arith)
+refusal_tests a b c x y z e = grind arith
 
 pub may_from : (r : Ring) (m : Meaning) (s : ℕ) (end : Rank) → Agrees r m → refusal r.format r.known.top.0 s end ≡ None → MayReserve r m s end
 may_from r m s end agrees none =
     let t = refusal_tests (ltb s 8) (ltb 0 end.0 && leb end.0 (r.format.top.0 + 1)) (leb (r.known.top.0 + 8) (2 ^ 62 - 1)) Exhausted (End end) (Series s) none in
-    let b = both (ltb 0 end.0) (leb end.0 (r.format.top.0 + 1)) t.1 in
+    let b = and_parts (ltb 0 end.0) (leb end.0 (r.format.top.0 + 1)) t.1 in
     let known : r.known.top.0 ≡ top r.format m.reading = ap (λ k. k.top.0) agrees.knows in
     record {
       agrees = agrees;
@@ -215,12 +205,12 @@ module _ (r : Ring) (s : ℕ) (end : Rank) (whole : Meaning) (may : MayReserve r
   sector_is : w.sector ≡ known_gap begun.ring
   sector_is = ap (λ (x : Written). x.sector) begun.token
 
-  confirmed_well : (answer : Result (Unit {0}) DiskFault) (reserved : Reserved) → Ok reserved ≡ confirmed w answer → reserved ≡ record { series = w.series; end = w.end }
+  confirmed_well : (answer : Result (Unit {0}) DiskFault) (reserved : Reserved) → Ok reserved ≡ confirmed w answer → reserved ≡ record { series = w.claim.series; end = w.claim.end }
   confirmed_well (Ok done) reserved e = cc
-  confirmed_well (Err fault) reserved e = absurd (let z : ◌≡◌ {A = ℕ} 0 1 = cc in omega arith)
+  confirmed_well (Err fault) reserved e = absurd cc
 
   confirmed_ill : (answer : Result (Unit {0}) DiskFault) (u : Unconfirmed) → Err u ≡ confirmed w answer → (answer ≡ Err u.fault) × (u.written ≡ w)
-  confirmed_ill (Ok done) u e = absurd (let z : ◌≡◌ {A = ℕ} 0 1 = cc in omega arith)
+  confirmed_ill (Ok done) u e = absurd cc
   confirmed_ill (Err fault) u e =
       let same : u ≡ record { written = w; fault = fault } = cc in
       (ap Err (sym (ap (λ (x : Unconfirmed). x.fault) same)), ap (λ (x : Unconfirmed). x.written) same)
@@ -231,7 +221,7 @@ module _ (r : Ring) (s : ℕ) (end : Rank) (whole : Meaning) (may : MayReserve r
   confirm_done reserved m'' e flushed =
       let is : reserved ≡ record { series = s; end = end } =
       confirmed_well (answer_of Flush m' w.sector) reserved e
-      ∙ ap (λ (x : Written). record_reserved x.series x.end) begun.token in
+      ∙ ap (λ (x : Written). record_reserved x.claim.series x.claim.end) begun.token in
       subst (λ (x : Reserved). Ended r.format s end whole (Ok x) r' m'') (sym is)
       (flush_done r.format s end whole begun.ring begun.meaning begun.cleared may.series may.numbers may.some may.ends r' m' begun.writes m'' flushed)
     where
@@ -240,11 +230,11 @@ module _ (r : Ring) (s : ℕ) (end : Rank) (whole : Meaning) (may : MayReserve r
 
   pub confirm_denied :
       (u : Unconfirmed) (x : Stop) (m'' : Meaning) → Err u ≡ confirmed w (answer_of Flush m' w.sector) → m'' ≡ m' →
-      x ≡ record { work = Reservation u.written.series; fault = u.fault } →
+      x ≡ record { work = Reservation u.written.claim.series; fault = u.fault } →
       Ended r.format s end whole (Err (Interrupted x)) r' m''
   confirm_denied u x m'' e same given =
       let told = confirmed_ill (answer_of Flush m' w.sector) u e in
-      let series_is : u.written.series ≡ s = ap (λ (y : Written). y.series) (told.1 ∙ begun.token) in
+      let series_is : u.written.claim.series ≡ s = ap (λ (y : Written). y.claim.series) (told.1 ∙ begun.token) in
       let is : x ≡ record { work = Reservation s; fault = u.fault } =
       given ∙ ap (λ (n : ℕ). stop_of n u.fault) series_is in
       let answer : answer_of Flush m' (known_gap begun.ring) ≡ Err u.fault = ap (answer_of Flush m') (sym sector_is) ∙ told.0 in

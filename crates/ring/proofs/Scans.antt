@@ -140,9 +140,6 @@ module _ (f : Format) (reading : List (List ℕ)) (sectors n : ℕ) (all : secto
     scan_stops is none_yet =
         sym (ap (scanned f reading) (foreign_lowest f reading n (length reading) (omega arith) (reads ∙ sym is) none_yet))
 
-    pub scan_series : (r : Record) → Holds r ≡ content f n bytes → r.series < 8
-    scan_series r is = (placed f reading n r (slot-holds f reading n r (reads ∙ sym is))).series
-
     pub scan_blank :
         (k : Known) → Blank ≡ content f n bytes → (foreign_below f reading n ≡ None) × (k ≡ known_below f reading n) →
         (foreign_below f reading (n + 1) ≡ None) × (k ≡ known_below f reading (n + 1))

@@ -110,7 +110,7 @@ by_supply operation i fault zero h = (refl, cc)
 by_supply operation i fault (suc p) h =
     let some : eqb (suc p) 0 ≡ false = ne_eqb (suc p) 0 (λ e. omega arith) in
     let ok = rw some at h in
-    absurd (let z : ◌≡◌ {A = ℕ} 0 1 = cc in omega arith)
+    absurd cc
 
 pub told-dark : (operation : Operation) (m : Meaning) (i : ℕ) (fault : DiskFault) → i < count m → answer_of operation m i ≡ Err fault → (m.supply ≡ 0) × (fault ≡ denied Dark operation i)
 told-dark operation m i fault l e = by_supply operation i fault m.supply (rw (lt-ltb i (count m) l) at e)

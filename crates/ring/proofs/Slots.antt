@@ -1,6 +1,6 @@
 -- What the sectors hold: records in their places, the top record, and the live ones.
-use Rattle.std.proofs.Common.{◌≡◌, ℕ, zero, suc, ◌+◌, ◌%◌, ◌^◌, ◌<◌, ◌≤◌, max, Bool, true, false, cond, ◌&&◌, eqb, ltb, ◌⊎◌, List, length, Some, None, Option, sym, refl, ap, ◌∙◌, subst, inl, inr, ⊎_elim, arith}
-use Rattle.std.proofs.lemmas.Bool.{ltb-true, ltb-false, eqb-true, eq-eqb, cases_lt, cases_eq, cases_Bool}
+use Rattle.std.proofs.Common.{◌≡◌, ℕ, zero, suc, ◌+◌, ◌%◌, ◌^◌, ◌<◌, ◌≤◌, max, Bool, true, cond, eqb, ltb, ◌⊎◌, List, length, Some, None, Option, sym, refl, ap, ◌∙◌, subst, inl, inr, ⊎_elim, arith}
+use Rattle.std.proofs.lemmas.Bool.{and_parts, ltb-true, ltb-false, eqb-true, eq-eqb, cases_lt, cases_eq, cases_Bool}
 use Rattle.std.proofs.lemmas.Bool.Decides.{nat_tests}
 use Rattle.record.specs.Sector.{content, sound, parts, belongs, lawful}
 use Rattle.record.specs.declared.sector.Content.{Content}
@@ -45,24 +45,18 @@ lawful_from f k r p =
     grind (arith, nat_tests)
 
 holds_if : (a b : Bool) (p r : Record) → cond a (cond b (Holds p) Foreign) Blank ≡ Holds r → (b ≡ true) × (p ≡ r)
-holds_if true true p r e = (refl, cc)
-holds_if true false p r e = absurd (let z : ◌≡◌ {A = ℕ} 0 1 = cc in omega arith)
-holds_if false b p r e = absurd (let z : ◌≡◌ {A = ℕ} 0 1 = cc in omega arith)
-
-and_right : (a b : Bool) → (a && b) ≡ true → b ≡ true
-and_right true b e = e
-and_right false b e = absurd (let z : ◌≡◌ {A = ℕ} 0 1 = cc in omega arith)
+holds_if a b p r e = grind arith
 
 content-lawful : (f : Format) (k : ℕ) (s : List ℕ) (r : Record) → content f k s ≡ Holds r → lawful f k r ≡ true
 unfolding content
 content-lawful f k s r e =
     let h = holds_if (sound s) (belongs f k (parts s)) (parts s).«record» r e in
-    let l = and_right (parts s).zeroed _ (and_right (eqb (parts s).tag f.tag) _ h.0) in
-    subst (λ (q : Record). lawful f k q ≡ true) h.1 l
+    let l = and_parts (parts s).zeroed _ (and_parts (eqb (parts s).tag f.tag) _ h.0).1 in
+    subst (λ (q : Record). lawful f k q ≡ true) h.1 l.1
 
 some_record : (c : Content) (r : Record) → record_in c ≡ Some r → c ≡ Holds r
-some_record Blank r e = absurd (let z : ◌≡◌ {A = ℕ} 0 1 = cc in omega arith)
-some_record Foreign r e = absurd (let z : ◌≡◌ {A = ℕ} 0 1 = cc in omega arith)
+some_record Blank r e = absurd cc
+some_record Foreign r e = absurd cc
 some_record (Holds q) r e = cc
 
 -- a record lies in the sector that its number names

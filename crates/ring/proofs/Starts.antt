@@ -1,5 +1,5 @@
 -- Where a ring starts: on a disk without records, and on sectors that recover.
-use Rattle.std.proofs.Common.{◌≡◌, ℕ, zero, suc, ◌+◌, ◌^◌, ◌<◌, ◌≤◌, true, false, leb, List, length, Some, None, Ok, Option, sym, refl, ap, ◌∙◌, inl, ⊎_elim, arith}
+use Rattle.std.proofs.Common.{◌≡◌, ℕ, zero, suc, ◌^◌, ◌<◌, true, false, leb, List, length, Some, None, Ok, Option, sym, refl, ap, ◌∙◌, inl, arith}
 use Rattle.std.proofs.lemmas.Bool.{le-leb, lt-ltb}
 use Rattle.record.specs.Sector.{content}
 use Rattle.record.specs.declared.sector.Format.{Format}
@@ -11,7 +11,7 @@ use Rattle.ring.specs.declared.known.Live.{Live}
 use Rattle.ring.specs.declared.ring.Ring.{Ring}
 use Rattle.ring.proofs.Cuts.{blank_from}
 use Rattle.ring.proofs.Knows.{knows_live}
-use Rattle.ring.proofs.Slots.{placed, top_is, live-held, live_is}
+use Rattle.ring.proofs.Slots.{top_is, live_is}
 use Rattle.ring.proofs.Writes.{gap_lies}
 
 -- no sector of a disk without records holds one
@@ -19,8 +19,7 @@ no_record : (f : Format) (m : Meaning) (k : ℕ) (r : Record) → WithoutRecords
 unfolding slot
 no_record f m k r w l e =
     let n : None ≡ Some r = sym (ap record_in (blank_from f k (at m.reading k) (w.blank k l))) ∙ e in
-    let z : ◌≡◌ {A = ℕ} 0 1 = cc in
-    omega arith
+    cc
 
 -- such a disk's top record is 0, and so is every end
 pub blank_top : (f : Format) (m : Meaning) → WithoutRecords m → top f m.reading ≡ 0
@@ -74,13 +73,3 @@ agrees_recovers r m agrees = record { sized = agrees.sized; free = agrees.free; 
 -- the end that a ring knows is the one that its sectors read
 pub known_end_is : (f : Format) (reading : List (List ℕ)) (s : ℕ) → s < 8 → (known_end (known f reading) s).0 ≡ end_of f reading s
 known_end_is f reading s l = rw (lt-ltb s 8 l) (ap (λ (x : Live). x.end.0) (knows_live f reading s l))
-
--- no end is above the top of the kind by more than one
-pub end_low : (f : Format) (reading : List (List ℕ)) (s : ℕ) → end_of f reading s ≤ f.top.0 + 1
-end_low f reading s =
-    ⊎_elim
-    (λ e. let z : end_of f reading s ≡ 0 = ap (λ (x : Live). x.end.0) e in omega arith)
-    (λ h.
-    let z : end_of f reading s ≡ h.0.end.0 = ap (λ (x : Live). x.end.0) h.3 in
-    omega (arith, (placed f reading h.1.at_sector h.0 h.1.holds).ends))
-    (live-held f reading s)

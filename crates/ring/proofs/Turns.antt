@@ -1,5 +1,5 @@
 -- One turn of the code's loop, by what it looked at.
-use Rattle.std.proofs.Common.{◌≡◌, ℕ, ◌+◌, ◌^◌, ◌<◌, ◌≤◌, Bool, true, false, cond, not, ◌&&◌, eqb, ltb, leb, ◌≢◌, length, set, Some, None, Ok, Err, Result, sym, refl, ap, subst, ⊎_elim, arith}
+use Rattle.std.proofs.Common.{◌≡◌, ℕ, ◌+◌, ◌^◌, ◌<◌, ◌≤◌, Bool, true, false, cond, not, ◌&&◌, eqb, ltb, leb, ◌≢◌, length, set, Some, None, Ok, Option, Result, sym, ap, ◌∙◌, subst, ⊎_elim, arith}
 use Rattle.std.proofs.lemmas.Bool.{eqb-false, eqb-true, ltb-true, leb-true}
 use Rattle.record.specs.Sector.{content}
 use Rattle.record.specs.declared.numbers.Rank.{Rank}
@@ -10,7 +10,7 @@ use Rattle.record.specs.declared.sector.Record.{Record}
 use Rattle.disk.specs.Meaning.{Meaning, at, Flushed}
 use Rattle.disk.specs.declared.fault.DiskFault.{DiskFault}
 use Rattle.ring.specs.Operations.{Writes, Denied}
-use Rattle.ring.specs.Ring.{top, beyond, carried, carry_of, live_among, live_of, left, noted, next_known}
+use Rattle.ring.specs.Ring.{top, beyond, carried, carry_of, live_among, live_of, left, noted, next_known, Agrees}
 use Rattle.ring.specs.Search.{Searching, Cleared, Stopped}
 use Rattle.ring.specs.declared.fault.RingFault.TheVariants.{Interrupted as Dark}
 use Rattle.ring.specs.declared.fault.Interrupted.{Interrupted}
@@ -21,23 +21,13 @@ use Rattle.ring.specs.declared.ring.Ring.{Ring}
 use Rattle.ring.proofs.Knows.{carry_is, left-set}
 use Rattle.ring.proofs.Searches.{search_ends, search_goes_on, stops_at_write, stops_at_flush}
 
-pub ok_same : {A E : Type 0} {a b : A} → ◌≡◌ {A = Result A E} (Ok a) (Ok b) → a ≡ b
-ok_same e = cc
-
-pub ok_not_err : {A E : Type 0} {a : A} {e : E} → ◌≡◌ {A = Result A E} (Err e) (Ok a) → ⊥
-ok_not_err e = let z : ◌≡◌ {A = ℕ} 0 1 = cc in omega arith
-
 -- the top rises with a record
 pub noted_since : (k k' : Known) (s : ℕ) (end : Rank) (start : ℕ) → start < 2 ^ 63 → start ≤ k.top.0 → k' ≡ noted k (next_known k s end) → start ≤ k'.top.0
 noted_since k k' s end start small since e = omega (arith, ap (λ (x : Known). x.top.0) e)
 
 -- what the code carries
 carry_tests : (q r : Record) (a b c d : Bool) → cond (not a && ((b && c) && d)) (Some q) None ≡ Some r → (q ≡ r) × (a ≡ false) × (b ≡ true) × (c ≡ true) × (d ≡ true)
-carry_tests q r false true true true h = (cc, refl, refl, refl, refl)
-carry_tests q r false true true false h = absurd (let z : ◌≡◌ {A = ℕ} 0 1 = cc in omega arith)
-carry_tests q r false true false d h = absurd (let z : ◌≡◌ {A = ℕ} 0 1 = cc in omega arith)
-carry_tests q r false false c d h = absurd (let z : ◌≡◌ {A = ℕ} 0 1 = cc in omega arith)
-carry_tests q r true b c d h = absurd (let z : ◌≡◌ {A = ℕ} 0 1 = cc in omega arith)
+carry_tests q r a b c d h = grind arith
 
 -- a record that the code carries is of another series, and the live one as the ring knows it, no newer than the start
 pub record Carries (k : Known) (s start : ℕ) (r : Record) : Type 0 where
@@ -47,8 +37,8 @@ pub record Carries (k : Known) (s start : ℕ) (r : Record) : Type 0 where
   pub old : r.sequence.0 ≤ start
 
 pub carries_from : (k : Known) (s start : ℕ) (c : Content) (r : Record) → carry_of k s start c ≡ Some r → Carries k s start r
-carries_from k s start Blank r e = absurd (let z : ◌≡◌ {A = ℕ} 0 1 = cc in omega arith)
-carries_from k s start Foreign r e = absurd (let z : ◌≡◌ {A = ℕ} 0 1 = cc in omega arith)
+carries_from k s start Blank r e = absurd cc
+carries_from k s start Foreign r e = absurd cc
 carries_from k s start (Holds q) r e =
     let t = carry_tests q r (eqb q.series s) (ltb q.series 8) (eqb q.sequence.0 (live_among k.lives q.series).number.0) (leb q.sequence.0 start) e in
     subst (Carries k s start) t.0
@@ -82,17 +72,20 @@ module _ (f : Format) (s : ℕ) (whole : Meaning) (r : Ring) (m : Meaning) (sear
   own_numbers : top r.format whole.reading + 8 < 2 ^ 62
   own_numbers = subst (λ (x : Format). top x whole.reading + 8 < 2 ^ 62) (sym search.format) numbers
 
-  pub search_low : top r.format m.reading < 2 ^ 62
-  search_low = omega (arith, own.few, own_numbers)
+  low : top r.format m.reading < 2 ^ 62
+  low = omega (arith, own.few, own_numbers)
 
   -- the code finds what the rule carries
   pub turn_finds :
-      (start : ℕ) (c : Content) → start ≡ top f whole.reading →
-      c ≡ content r.format (beyond r.format m.reading) (at m.reading (beyond r.format m.reading)) →
-      carry_of r.known s start c ≡ carried r.format m.reading s
-  turn_finds start c begun is =
+      (start : ℕ) (c : Content) (x : Option Record) → start ≡ top f whole.reading →
+      (Agrees r m → top r.format m.reading < 2 ^ 62 → ◌≡◌ {A = Result Content DiskFault} (Ok c) (Ok (content r.format (beyond r.format m.reading) (at m.reading (beyond r.format m.reading))))) →
+      x ≡ carry_of r.known s start c →
+      carried r.format m.reading s ≡ x
+  turn_finds start c x begun look tells =
       let near : top r.format m.reading ≤ start + 7 = omega (arith, own.few, ap (λ (x : Format). top x whole.reading) search.format) in
-      rw (own.agrees.knows, is) (carry_is r.format m.reading own.agrees.sized s start near)
+      let read = look own.agrees low in
+      let is : c ≡ content r.format (beyond r.format m.reading) (at m.reading (beyond r.format m.reading)) = cc in
+      sym (tells ∙ rw (own.agrees.knows, is) (carry_is r.format m.reading own.agrees.sized s start near))
 
   pub turn_ends : carried r.format m.reading s ≡ None → Cleared f s whole r m
   turn_ends e = subst (λ (x : Format). Cleared x s whole r m) search.format (search_ends s whole r m own own_numbers e)

@@ -172,6 +172,10 @@ carry_of k s start (Holds r) =
 abbrev pub known_end : Known → ℕ → Rank
 known_end k s = cond (nat_lt s 8) (live_among k.lives s).end (record { 0 = 0 })
 
+-- the ends of all eight series by what is known
+abbrev pub known_ends : Known → List Rank
+known_ends k = map (known_end k) (range_with_len 0 8)
+
 -- whether a sector holds a live record, by what is known
 abbrev pub live_by : Known → Content → Bool
 live_by k Blank = false

@@ -64,7 +64,7 @@ pub record Begun (f : Format) (s : ℕ) (end : Rank) (whole : Meaning) (w : Writ
   pub meaning : Meaning
   pub cleared : Cleared f s whole ring meaning
   pub writes : Writes ring meaning s end r m
-  pub token : w ≡ record { series = s; end = end; sector = known_gap ring }
+  pub token : w ≡ record { claim = record { series = s; end = end }; sector = known_gap ring }
 
 -- what a reservation is refused for before anything is touched: the series, the end, or that sequence numbers run short
 abbrev pub refusal : Format → ℕ → ℕ → Rank → Option RingFault
@@ -75,9 +75,10 @@ refusal f top s end =
     (Some (End end)))
     (Some (Series s))
 
-abbrev pub admitted : Option RingFault → Result (Unit {0}) RingFault
-admitted None = Ok tt
-admitted (Some fault) = Err fault
+-- what is asked for, unless it is refused
+abbrev pub admitted : {A : Type 0} → A → Option RingFault → Result A RingFault
+admitted asked None = Ok asked
+admitted asked (Some fault) = Err fault
 
 -- a reservation that nothing refuses, on a ring that agrees with its disk
 pub record MayReserve (r : Ring) (m : Meaning) (s : ℕ) (end : Rank) : Type 0 where

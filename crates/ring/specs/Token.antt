@@ -8,7 +8,7 @@ use Rattle.ring.specs.declared.token.Written.{Written}
 
 -- it is confirmed, or comes back with the fault
 abbrev pub confirmed : Written → Result (Unit {0}) DiskFault → Result Reserved Unconfirmed
-confirmed w (Ok done) = Ok (record { series = w.series; end = w.end })
+confirmed w (Ok done) = Ok (record { series = w.claim.series; end = w.claim.end })
 confirmed w (Err fault) = Err (record { written = w; fault = fault })
 
 -- a rank below the end

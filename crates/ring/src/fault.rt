@@ -79,8 +79,5 @@ impl From<Interrupted> for RingFault {
 pub(crate) fn during(work: Work, answer: Result<(), DiskFault>) -> Result<(), Interrupted>
     ensures { result ≡ with_work work answer }
 {
-    match answer {
-        Ok(()) => Ok(()),
-        Err(fault) => Err(Interrupted { work, fault }),
-    }
+    answer.map_err(|fault| Interrupted { work, fault })
 }

@@ -1,10 +1,11 @@
 // What the ring knows of its sectors.
-ghost use Rattle.std.specs.Prelude.{◌≡◌, ◌<◌, ◌&&◌, length, replicate, nat_eq, nat_lt, slice_index_or};
-ghost use Rattle.ring.specs.Ring.{none, newer, met, noted, next_known, carry_of, live_among, live_by, known_end};
+ghost use Rattle.std.specs.Prelude.{◌≡◌, ◌&&◌, length, nat_eq, nat_lt, slice_set};
+ghost use Rattle.ring.specs.Ring.{newer, live_of, met, noted, next_known, carry_of, live_among, live_by, known_end};
 
 use record::{Content, Rank, Record, Sequence};
 
-// The live record of a series: its number and its end, both 0 where there is none.
+// The live record of a series: its number and its end. Both are 0 where there is none, as the rules give it: an Option would
+// be unwrapped to 0 at each use.
 #[derive(Clone, Copy)]
 pub struct Live {
     pub number: Sequence,
@@ -18,90 +19,104 @@ pub struct Known {
     pub lives: [Live; 8],
 }
 
-// The one of the higher number.
+// What a record is to claim: the series, and its new end.
+#[derive(Clone, Copy)]
+pub(crate) struct Claim {
+    pub(crate) series: u8,
+    pub(crate) end: Rank,
+}
+
+impl From<Record> for Live {
+    ghost from_gives = { λ entry live. live ≡ live_of entry };
+
+    fn from(entry: Record) -> Live {
+        Live {
+            number: entry.sequence,
+            end: entry.end,
+        }
+    }
+}
+
+impl Live {
+    // No live record.
+    const NONE: Live = Live {
+        number: Sequence(0),
+        end: Rank(0),
+    };
+}
+
+// The one of the higher number; the first of two that have the same.
 fn newest(a: Live, b: Live) -> Live
     ensures { result ≡ newer a b }
 {
-    if a.number.0 < b.number.0 { b } else { a }
+    if a.number < b.number { b } else { a }
 }
 
 impl Known {
-    // The live record of a series.
-    pub(crate) fn live(self, series: u8) -> Live
-        requires { series < 8 }
-        ensures { result ≡ slice_index_or self.lives series none }
+    // Nothing is known yet.
+    pub(crate) const NOTHING: Known = Known {
+        top: Sequence(0),
+        lives: [Live::NONE; 8],
+    };
+
+    // The live record of a series; none for a series above 7.
+    fn live(self, series: u8) -> Live
+        ensures { result ≡ live_among self.lives series }
     {
-        self.lives[series as usize]
+        self.lives
+            .get(usize::from(series))
+            .copied()
+            .unwrap_or(Live::NONE)
     }
 
     // The end of a series; 0 without a record, and for a series above 7.
     pub(crate) fn end(self, series: u8) -> Rank
         ensures { result ≡ known_end self series }
     {
-        if series >= 8 {
-            return Rank(0);
-        }
-        self.lives[series as usize].end
+        self.live(series).end
     }
 
-    // Nothing is known yet.
-    pub(crate) fn nothing() -> Known
-        ensures { result ≡ record { top = record { 0 = 0 }; lives = replicate 8 none } }
+    // The live records, with another one for a series; as they are for a series above 7.
+    #[tactic(auto, using(std::proofs::lemmas::List::set_past))]
+    fn with_live(self, series: u8, live: Live) -> [Live; 8]
+        ensures { result ≡ slice_set self.lives series live }
     {
-        let live = Live {
-            number: Sequence(0),
-            end: Rank(0),
-        };
-        Known {
-            top: Sequence(0),
-            lives: [live; 8],
+        let mut lives = self.lives;
+        if series < 8 {
+            lives[usize::from(series)] = live;
         }
+        lives
     }
 
     // What is known once one record more is met.
-    pub(crate) fn meet(self, record: Record) -> Known
-        requires { «record».series < 8 }
-        ensures { result ≡ met self «record» }
+    pub(crate) fn meet(self, entry: Record) -> Known
+        ensures { result ≡ met self entry }
     {
-        let mut lives = self.lives;
-        let live = lives[record.series as usize];
-        lives[record.series as usize] = newest(
-            live,
-            Live {
-                number: record.sequence,
-                end: record.end,
-            },
-        );
+        let live = newest(self.live(entry.series), Live::from(entry));
         Known {
-            top: Sequence(self.top.0.max(record.sequence.0)),
-            lives,
+            top: self.top.max(entry.sequence),
+            lives: self.with_live(entry.series, live),
         }
     }
 
     // What is known once a record is written that is newer than all others.
-    pub(crate) fn note(self, record: Record) -> Known
-        requires { «record».series < 8 }
-        ensures { result ≡ noted self «record» }
+    pub(crate) fn note(self, entry: Record) -> Known
+        ensures { result ≡ noted self entry }
     {
-        let mut lives = self.lives;
-        lives[record.series as usize] = Live {
-            number: record.sequence,
-            end: record.end,
-        };
         Known {
-            top: record.sequence,
-            lives,
+            top: entry.sequence,
+            lives: self.with_live(entry.series, Live::from(entry)),
         }
     }
 
     // The next record.
-    pub(crate) fn next(self, series: u8, end: Rank) -> Record
-        ensures { result ≡ next_known self series end }
+    pub(crate) fn next(self, claim: Claim) -> Record
+        ensures { result ≡ next_known self claim.series claim.end }
     {
         Record {
-            series,
+            series: claim.series,
             sequence: Sequence(self.top.0.saturating_add(1)),
-            end,
+            end: claim.end,
         }
     }
 
@@ -112,28 +127,25 @@ impl Known {
         ensures eight { length self.lives ≡ 8 }
     {
         match content {
-            Content::Record(record)
-                if record.series != series
-                    && self.is_live(record)
-                    && record.sequence.0 <= start.0 => Some(record),
+            Content::Record(entry)
+                if entry.series != series && self.is_live(entry) && entry.sequence <= start => {
+                Some(entry)
+            }
             _ => None,
         }
     }
 
     // Whether a record is the live one of its series.
-    pub(crate) fn is_live(self, record: Record) -> bool
-        ensures { result ≡ (nat_lt «record».series 8 && nat_eq «record».sequence.0 (live_among self.lives «record».series).number.0) }
+    pub(crate) fn is_live(self, entry: Record) -> bool
+        ensures { result ≡ (nat_lt entry.series 8 && nat_eq entry.sequence.0 (live_among self.lives entry.series).number.0) }
     {
-        record.series < 8 && record.sequence.0 == self.live(record.series).number.0
+        entry.series < 8 && entry.sequence == self.live(entry.series).number
     }
 
     // Whether a sector holds a live record.
     pub(crate) fn holds_live(self, content: Content) -> bool
         ensures { result ≡ live_by self content }
     {
-        match content {
-            Content::Record(record) => self.is_live(record),
-            _ => false,
-        }
+        matches!(content, Content::Record(entry) if self.is_live(entry))
     }
 }

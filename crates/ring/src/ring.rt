@@ -8,11 +8,11 @@ ghost use Rattle.ring.specs.Operations.{Writes, Denied};
 ghost use Rattle.ring.specs.Search.{MaySearch, Cleared, Stopped, MayReserve, Begun, Ended, refusal, admitted};
 ghost use Rattle.ring.specs.declared.fault.Work.TheVariants.{Carry};
 ghost use Rattle.record.specs.Sector.{content};
-ghost use Rattle.ring.specs.Ring.{named, known_gap, beyond, top, scanned, foreign_below, recovered, known_end, Agrees};
+ghost use Rattle.ring.specs.Ring.{named, known_gap, beyond, top, scanned, foreign_below, recovered, known_end, known_ends, Agrees};
 
 use crate::fault::{Interrupted, RingFault, Work, during};
-use crate::known::Known;
-use crate::token::{Reserved, Written};
+use crate::known::{Claim, Known};
+use crate::token::{Reserved, Unconfirmed, Written};
 use disk::{Disk, DiskFault, LEAST_SECTORS, MOST_SECTORS};
 use record::{Content, Format, LAST_SEQUENCE, Rank, Record, Sequence, classify, encode};
 
@@ -27,10 +27,7 @@ pub struct Ring {
 fn sector_of(number: u64, sectors: usize) -> usize
     ensures { result ≡ named number sectors }
 {
-    if sectors == 0 {
-        return 0;
-    }
-    (number % sectors as u64) as usize
+    number.checked_rem(sectors as u64).unwrap_or(0) as usize
 }
 
 // One pass over all sectors: what there is to know of them, or the lowest foreign one.
@@ -38,13 +35,13 @@ fn scan<D: Disk>(disk: &D, format: Format) -> Result<Known, RingFault>
     requires { format.sectors ≡ count (D.meaning disk.now) }
     ensures { result ≡ scanned format (D.meaning disk.now).reading (foreign_below format (D.meaning disk.now).reading (count (D.meaning disk.now))) }
 {
-    let mut known = Known::nothing();
+    let mut known = Known::NOTHING;
     for sector in 0..format.sectors {
         let bytes = disk.read(sector)?;
         match classify(format, sector, &bytes) {
             Content::Blank => {}
             Content::Foreign => return Err(RingFault::Foreign(sector)),
-            Content::Record(record) => known = known.meet(record),
+            Content::Record(entry) => known = known.meet(entry),
         }
     }
     Ok(known)
@@ -66,7 +63,7 @@ impl Ring {
         ensures agrees { top.0 < 2 ^ 53 → IfOk result (λ ring. Agrees ring (D.meaning disk.now)) }
     {
         let sectors = disk.sectors();
-        if sectors < LEAST_SECTORS || MOST_SECTORS < sectors {
+        if !(LEAST_SECTORS..=MOST_SECTORS).contains(&sectors) {
             return Err(RingFault::Size(sectors));
         }
         let format = Format { tag, top, sectors };
@@ -85,7 +82,7 @@ impl Ring {
         ensures value { result ≡ self.now.known.top }
         ensures reads { (m : Meaning) → Agrees self.now m → result.0 ≡ top self.now.format m.reading }
     {
-        Sequence(self.known.top.0)
+        self.known.top
     }
 
     // The end of a series: the first rank that is not reserved; 0 without a record, and for a series above 7.
@@ -94,6 +91,13 @@ impl Ring {
         ensures reads { (m : Meaning) → Agrees self.now m → series < 8 → result.0 ≡ end_of self.now.format m.reading series }
     {
         self.known.end(series)
+    }
+
+    // The ends of all eight series, in their order.
+    pub fn ends(&self) -> [Rank; 8]
+        ensures { result ≡ known_ends self.now.known }
+    {
+        self.known.lives.map(|live| live.end)
     }
 
     // What the sector after the gap holds.
@@ -118,30 +122,31 @@ impl Ring {
         disk: &mut D,
         gap: usize,
         work: Work,
-        series: u8,
-        end: Rank,
+        claim: Claim,
     ) -> Result<(), Interrupted>
-        requires { (series < 8) × (gap ≡ known_gap self.old) }
+        requires { gap ≡ known_gap self.old }
         ensures answer { result ≡ with_work work (answer_of Write (D.meaning disk.old) (known_gap self.old)) }
-        ensures effect { MatchResult result (λ _. Writes self.old (D.meaning disk.old) series end self.new (D.meaning disk.new)) (λ _. (D.meaning disk.new ≡ D.meaning disk.old) × (self.new ≡ self.old)) }
+        ensures effect { MatchResult result (λ _. Writes self.old (D.meaning disk.old) claim.series claim.end self.new (D.meaning disk.new)) (λ _. (D.meaning disk.new ≡ D.meaning disk.old) × (self.new ≡ self.old)) }
     {
-        let record = self.known.next(series, end);
-        during(work, disk.write(gap, &encode(self.format.tag, record)))?;
-        self.known = self.known.note(record);
+        let entry = self.known.next(claim);
+        during(work, disk.write(gap, &encode(self.format.tag, entry)))?;
+        self.known = self.known.note(entry);
         Ok(())
     }
 
     // Carries a live record: writes it anew into the gap, and flushes.
-    fn carry<D: Disk>(&mut self, disk: &mut D, record: Record) -> Result<(), Interrupted>
-        requires { «record».series < 8 }
-        ensures work { IfErr result (λ stopped. stopped.work ≡ Carry «record».series) }
-        ensures effect { MatchResult result (λ _. (between : Meaning) × Writes self.old (D.meaning disk.old) «record».series «record».end self.new between × Flushed between (D.meaning disk.new)) (λ stopped. Denied self.old (D.meaning disk.old) «record».series «record».end stopped.fault self.new (D.meaning disk.new)) }
+    fn carry<D: Disk>(&mut self, disk: &mut D, entry: Record) -> Result<(), Interrupted>
+        ensures work { IfErr result (λ stopped. stopped.work ≡ Carry entry.series) }
+        ensures effect { MatchResult result (λ _. (between : Meaning) × Writes self.old (D.meaning disk.old) entry.series entry.end self.new between × Flushed between (D.meaning disk.new)) (λ stopped. Denied self.old (D.meaning disk.old) entry.series entry.end stopped.fault self.new (D.meaning disk.new)) }
     {
-        let work = Work::Carry(record.series);
+        let claim = Claim {
+            series: entry.series,
+            end: entry.end,
+        };
+        let work = Work::Carry(claim.series);
         let gap = self.gap();
-        self.write_record(disk, gap, work, record.series, record.end)?;
-        during(work, disk.flush(gap))?;
-        Ok(())
+        self.write_record(disk, gap, work, claim)?;
+        during(work, disk.flush(gap))
     }
 
     // Looks at the sector after the gap, and carries what is live there of another series, until nothing is; tells the gap.
@@ -154,7 +159,7 @@ impl Ring {
         let gap = loop {
             let content = self.look(disk)?;
             match self.known.to_carry(series, start, content) {
-                Some(record) => self.carry(disk, record)?,
+                Some(entry) => self.carry(disk, entry)?,
                 None => break self.gap(),
             }
         };
@@ -162,22 +167,18 @@ impl Ring {
     }
 
     // Clears the way and writes the reservation, which is then to be confirmed or given up.
-    fn begin<D: Disk>(&mut self, disk: &mut D, series: u8, end: Rank) -> Result<Written, RingFault>
-        requires { (series < 8) × (self.old.known.top.0 + 8 < 2 ^ 62) }
-        ensures { MayReserve self.old (D.meaning disk.old) series end → MatchResult result (λ written. Begun self.old.format series end (D.meaning disk.old) written self.new (D.meaning disk.new)) (λ fault. Ended self.old.format series end (D.meaning disk.old) (Err fault) self.new (D.meaning disk.new)) }
+    fn begin<D: Disk>(&mut self, disk: &mut D, claim: Claim) -> Result<Written, RingFault>
+        requires { self.old.known.top.0 + 8 < 2 ^ 62 }
+        ensures { MayReserve self.old (D.meaning disk.old) claim.series claim.end → MatchResult result (λ written. Begun self.old.format claim.series claim.end (D.meaning disk.old) written self.new (D.meaning disk.new)) (λ fault. Ended self.old.format claim.series claim.end (D.meaning disk.old) (Err fault) self.new (D.meaning disk.new)) }
     {
-        let gap = self.clear_the_way(disk, series)?;
-        self.write_record(disk, gap, Work::Reservation(series), series, end)?;
-        Ok(Written {
-            series,
-            end,
-            sector: gap,
-        })
+        let gap = self.clear_the_way(disk, claim.series)?;
+        self.write_record(disk, gap, Work::Reservation(claim.series), claim)?;
+        Ok(Written { claim, sector: gap })
     }
 
-    // Whether a reservation may be made at all.
-    fn admit(&self, series: u8, end: Rank) -> Result<(), RingFault>
-        ensures { result ≡ admitted (refusal self.now.format self.now.known.top.0 series end) }
+    // What a reservation claims, if it may be made at all.
+    fn admit(&self, series: u8, end: Rank) -> Result<Claim, RingFault>
+        ensures { result ≡ admitted (record { series = series; end = end }) (refusal self.now.format self.now.known.top.0 series end) }
     {
         if series >= 8 {
             return Err(RingFault::Series(series));
@@ -188,7 +189,7 @@ impl Ring {
         if self.known.top.0 > LAST_SEQUENCE - 8 {
             return Err(RingFault::Exhausted);
         }
-        Ok(())
+        Ok(Claim { series, end })
     }
 
     // Reserves the ranks of a series up to a new end: carries what is in the way, writes the reservation and flushes it.
@@ -201,11 +202,9 @@ impl Ring {
         ensures refused { (fault : RingFault) → refusal self.old.format self.old.known.top.0 series end ≡ Some fault → (result ≡ Err fault) × (self.new ≡ self.old) × (D.meaning disk.new ≡ D.meaning disk.old) }
         ensures reserves { Agrees self.old (D.meaning disk.old) → refusal self.old.format self.old.known.top.0 series end ≡ None → Ended self.old.format series end (D.meaning disk.old) result self.new (D.meaning disk.new) }
     {
-        self.admit(series, end)?;
-        let written = self.begin(disk, series, end)?;
-        match written.confirm(disk) {
-            Ok(reserved) => Ok(reserved),
-            Err(unconfirmed) => Err(RingFault::from(unconfirmed.give_up())),
-        }
+        let claim = self.admit(series, end)?;
+        let written = self.begin(disk, claim)?;
+        let reserved = written.confirm(disk).map_err(Unconfirmed::give_up)?;
+        Ok(reserved)
     }
 }

@@ -6,14 +6,14 @@ ghost use Rattle.ring.specs.Token.{confirmed, drawn};
 ghost use Rattle.ring.specs.declared.fault.Work.TheVariants.{Reservation};
 
 use crate::fault::{Interrupted, Work};
+use crate::known::Claim;
 use disk::{Disk, DiskFault};
 use record::Rank;
 
 // A reservation that is written and not yet flushed. No rank can be drawn from it, and it cannot be let go: it is confirmed
 // by a flush, or given up by name.
 pub struct Written {
-    pub(crate) series: u8,
-    pub(crate) end: Rank,
+    pub(crate) claim: Claim,
     pub(crate) sector: usize,
 }
 
@@ -38,11 +38,8 @@ impl Written {
     {
         match disk.flush(self.sector) {
             Ok(()) => {
-                let Written {
-                    series,
-                    end,
-                    sector: _,
-                } = self;
+                let Written { claim, sector: _ } = self;
+                let Claim { series, end } = claim;
                 Ok(Reserved { series, end })
             }
             Err(fault) => Err(Unconfirmed {
@@ -56,16 +53,12 @@ impl Written {
 impl Unconfirmed {
     // Gives the reservation up: what was written may stand after a cut, or not.
     pub(crate) fn give_up(self) -> Interrupted
-        ensures { result ≡ record { work = Reservation self.written.series; fault = self.fault } }
+        ensures { result ≡ record { work = Reservation self.written.claim.series; fault = self.fault } }
     {
         let Unconfirmed { written, fault } = self;
-        let Written {
-            series,
-            end: _,
-            sector: _,
-        } = written;
+        let Written { claim, sector: _ } = written;
         Interrupted {
-            work: Work::Reservation(series),
+            work: Work::Reservation(claim.series),
             fault,
         }
     }
@@ -76,10 +69,6 @@ impl Reserved {
     pub fn draw(self, rank: Rank) -> Option<Rank>
         ensures { result ≡ drawn self rank }
     {
-        if rank.0 < self.end.0 {
-            Some(rank)
-        } else {
-            None
-        }
+        (rank < self.end).then_some(rank)
     }
 }

@@ -1,27 +1,17 @@
 -- Each turn is one of the search: it ends, goes on, or is stopped.
-use Rattle.std.proofs.Common.{sym, ap, ◌∙◌, arith}
+use Rattle.std.proofs.Common.{sym, ap, arith}
 use Rattle.std.proofs.lemmas.Result.{err_from_is_err_and}
 use Rattle.ring.proofs.Searches.{search_begins}
-use Rattle.ring.proofs.Turns.{ok_same, ok_not_err, noted_since, carries_from, carries_less, search_low, turn_finds, turn_ends, turn_goes_on, turn_stops}
+use Rattle.ring.proofs.Turns.{noted_since, carries_from, carries_less, turn_finds, turn_ends, turn_goes_on, turn_stops}
 use Rattle.ring.proofs.ring.Ring.clear_the_way.Goals as goal
 
 pub loop-content-init : goal.loop-content-init
 loop-content-init g c = (omega arith, λ may. search_begins _ _ _ may)
 
-pub returns-in_err-content : goal.returns-in_err-content
-returns-in_err-content g c =
-    let p = err_from_is_err_and c.from_residual.result c.from_residual.ensures.1 in
-    record {
-      gap = rw p.1 tt;
-      search = λ may.
-          let search = c.loop-content.invariant.1 may in
-          absurd (ok_not_err (c.in_err-content.ensures search.agrees (search_low _ _ _ _ _ search may.numbers)));
-    }
-
 pub loop-content-smaller : goal.loop-content-smaller
 loop-content-smaller g c =
     carries_less c.loop-content.self.known c.carry.new.self.known c.args.series c.args.self.now.known.top.0
-    c.in-Some.record
+    c.in-Some.entry
     c.to_carry.ensures.eight
     (omega (arith, c.requires))
     c.loop-content.invariant.0
@@ -31,16 +21,15 @@ loop-content-smaller g c =
 -- the code carried what the rule asks for
 pub loop-content-preserved : goal.loop-content-preserved
 loop-content-preserved g c = (
-  noted_since c.loop-content.self.known c.carry.new.self.known c.in-Some.record.series c.in-Some.record.end
+  noted_since c.loop-content.self.known c.carry.new.self.known c.in-Some.entry.series c.in-Some.entry.end
       c.args.self.now.known.top.0
       (omega (arith, c.requires))
       c.loop-content.invariant.0
       (ap (λ r. r.known) c.in_ok-carry-in-Some.ensures.effect.1.1),
   λ may.
       let search = c.loop-content.invariant.1 may in
-      let read = ok_same (c.in_ok-content.ensures search.agrees (search_low _ _ _ _ _ search may.numbers)) in
-      let finds = turn_finds _ _ _ _ _ search may.numbers _ _ (ap (λ k. k.top.0) may.agrees.knows) read in
-      turn_goes_on _ _ _ _ _ search may.numbers c.in-Some.record (sym finds ∙ sym c.in-Some.ensures.value) _
+      let finds = turn_finds _ _ _ _ _ search may.numbers _ _ _ (ap (λ k. k.top.0) may.agrees.knows) c.in_ok-content.ensures c.in-Some.ensures.value in
+      turn_goes_on _ _ _ _ _ search may.numbers c.in-Some.entry finds _
       c.in_ok-carry-in-Some.ensures.effect.0
       _
       c.in_ok-carry-in-Some.ensures.effect.1
@@ -54,10 +43,9 @@ returns-in_err-carry-in-Some g c =
       gap = rw p.1 tt;
       search = λ may.
           let search = c.loop-content.invariant.1 may in
-          let read = ok_same (c.in_ok-content.ensures search.agrees (search_low _ _ _ _ _ search may.numbers)) in
-          let finds = turn_finds _ _ _ _ _ search may.numbers _ _ (ap (λ k. k.top.0) may.agrees.knows) read in
+          let finds = turn_finds _ _ _ _ _ search may.numbers _ _ _ (ap (λ k. k.top.0) may.agrees.knows) c.in_ok-content.ensures c.in-Some.ensures.value in
           rw (p.1, p.2)
-          (turn_stops _ _ _ _ _ search may.numbers c.in-Some.record (sym finds ∙ sym c.in-Some.ensures.value)
+          (turn_stops _ _ _ _ _ search may.numbers c.in-Some.entry finds
           c.in_err-carry-in-Some.field-0.0 _ _
           c.in_err-carry-in-Some.ensures.work
           c.in_err-carry-in-Some.ensures.effect);
@@ -69,7 +57,6 @@ returns g c =
       gap = c.gap-gap.ensures;
       search = λ may.
           let search = c.loop-content.invariant.1 may in
-          let read = ok_same (c.in_ok-content.ensures search.agrees (search_low _ _ _ _ _ search may.numbers)) in
-          let finds = turn_finds _ _ _ _ _ search may.numbers _ _ (ap (λ k. k.top.0) may.agrees.knows) read in
-          turn_ends _ _ _ _ _ search may.numbers (sym finds ∙ sym c.in-None.ensures.value);
+          let finds = turn_finds _ _ _ _ _ search may.numbers _ _ _ (ap (λ k. k.top.0) may.agrees.knows) c.in_ok-content.ensures c.in-None.ensures.value in
+          turn_ends _ _ _ _ _ search may.numbers finds;
     }

@@ -1,25 +1,26 @@
 -- The reservation is confirmed by its flush, or given up.
-use Rattle.ring.proofs.Reserves.{not_refused, may_from, confirm_done, confirm_denied}
+use Rattle.std.proofs.Common.{sym, ◌∙◌, rules}
+use Rattle.std.proofs.lemmas.Result.{MatchResult-at_ok, MatchResult-at_err, err_from_is_err_and}
+use Rattle.ring.proofs.Reserves.{may_from, is_admitted, passed_on, made_of, confirm_done, confirm_denied}
 use Rattle.ring.proofs.ring.Ring.reserve.Goals as goal
 
-pub returns-in-Ok : goal.returns-in-Ok
-returns-in-Ok g c =
-    record {
-      refused = λ fault e. absurd (not_refused _ fault c.in_ok-admit.ensures e);
-      reserves = λ agrees none.
-          let may = may_from _ _ _ _ agrees none in
-          confirm_done _ _ _ _ may _ _ _ (c.in_ok-written.ensures may) _ _ c.in-Ok.ensures.answer c.in-Ok.ensures.effect;
-    }
+pub returns-clause-reserves : goal.returns-clause-reserves
+returns-clause-reserves g c agrees none =
+    let may = may_from _ _ c.args.series c.args.end agrees none in
+    let asked = (is_admitted _ _ _ c.in_ok-claim.ensures).1 in
+    let begun = rw asked at c.in_ok-written.ensures in
+    let was = passed_on _ _ _ c.in_ok-reserved.ensures.cases in
+    confirm_done _ _ _ _ may _ _ _ (begun may) _ _ (sym was ∙ c.confirm.ensures.answer)
+    (MatchResult-at_ok _ _ _ was c.confirm.ensures.effect)
 
-pub returns-in-Err : goal.returns-in-Err
-returns-in-Err g c =
-    record {
-      refused = λ fault e. absurd (not_refused _ fault c.in_ok-admit.ensures e);
-      reserves = λ agrees none.
-          let may = may_from _ _ _ _ agrees none in
-          rw c.from.ensures
-          (confirm_denied _ _ _ _ may _ _ _ (c.in_ok-written.ensures may) c.in-Err.unconfirmed c.give_up.result _
-          c.in-Err.ensures.answer
-          c.in-Err.ensures.effect
-          c.give_up.ensures);
-    }
+pub returns-in_err-reserved-clause-reserves : goal.returns-in_err-reserved-clause-reserves
+returns-in_err-reserved-clause-reserves g c agrees none =
+    let may = may_from _ _ c.args.series c.args.end agrees none in
+    let asked = (is_admitted _ _ _ c.in_ok-claim.ensures).1 in
+    let begun = rw asked at c.in_ok-written.ensures in
+    let was = made_of _ _ _ c.in_err-reserved.ensures.cases in
+    let p = err_from_is_err_and c.from_residual-in_err-reserved.result c.from_residual-in_err-reserved.ensures.1 in
+    rw (p.1, p.2)
+    (confirm_denied _ _ _ _ may _ _ _ (begun may) was.0 _ _ (sym was.1 ∙ c.confirm.ensures.answer)
+    (MatchResult-at_err _ _ _ was.1 c.confirm.ensures.effect)
+    (search (rules, was.2)))
