@@ -1,6 +1,9 @@
 // Where a run stands, by the lines that were taken.
-ghost use Rattle.std.specs.Prelude.{◌≡◌};
+ghost use Rattle.std.specs.Prelude.{◌≡◌, ok_or};
 ghost use Rattle.simulator.specs.Stages.{view, started, leased, closed, room, make_for};
+ghost use Rattle.simulator.specs.declared.answer.Denial.TheVariants.{NoDevice};
+ghost use Rattle.simulator.specs.declared.stage.Left.TheVariants.{Nothing};
+ghost use Rattle.simulator.specs.declared.stage.Stage.TheVariants.{Ended};
 
 use crate::answer::Denial;
 use crate::any_kind::AnyKind;
@@ -89,14 +92,27 @@ impl<'a> Stage<'a> {
     }
 }
 
+// No memory is left: what stands in a stage's place while the next one is made of it.
+impl Default for Stage<'_> {
+    ghost is_default = { λ r. r ≡ Ended Nothing };
+
+    fn default() -> Self {
+        Stage::Ended(Left::Nothing)
+    }
+}
+
 // The disk that a number stands for.
-pub(crate) fn make_for(number: u64) -> Option<Make>
-    ensures { result ≡ make_for number }
-{
-    match number {
-        0 => Some(Make::Faithful),
-        1 => Some(Make::Torn),
-        _ => None,
+impl TryFrom<u64> for Make {
+    type Error = Denial;
+
+    ghost try_from_gives = { λ number r. r ≡ ok_or (make_for number) NoDevice };
+
+    fn try_from(number: u64) -> Result<Make, Denial> {
+        match number {
+            0 => Ok(Make::Faithful),
+            1 => Ok(Make::Torn),
+            _ => Err(Denial::NoDevice),
+        }
     }
 }
 
@@ -104,7 +120,6 @@ pub(crate) fn make_for(number: u64) -> Option<Make>
 pub(crate) fn has_room(bytes: usize, sectors: u64) -> bool
     ensures { result ≡ room bytes sectors }
 {
-    LEAST_SECTORS as u64 <= sectors
-        && sectors <= MOST_SECTORS as u64
+    (LEAST_SECTORS as u64..=MOST_SECTORS as u64).contains(&sectors)
         && SECTOR_BYTES as u64 * sectors <= bytes as u64
 }
