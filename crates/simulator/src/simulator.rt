@@ -80,7 +80,7 @@ impl<'a> Simulator<'a> {
         ensures ends { view self.new.stage ≡ finished answer (view self.old.stage) }
     {
         if answer.is_err_and(|denial| denial.ends_run()) {
-            self.stage = mem::take(&mut self.stage).end();
+            self.stage.end();
         }
     }
 
@@ -108,20 +108,20 @@ impl<'a> Simulator<'a> {
             (Stage::Kind { .. }, Command::Serial) => {
                 let fields = fields_in(line, command)?;
                 let kind = SerialKind::new(fields.a)?;
-                self.stage = mem::take(&mut self.stage).run(AnyKind::Serial(kind));
+                self.stage.run(AnyKind::Serial(kind));
                 Ok(Answer::Set)
             }
             (Stage::Kind { .. }, Command::Time) => {
                 let fields = fields_in(line, command)?;
                 let lease = Lease::new(fields.a)?;
-                self.stage = mem::take(&mut self.stage).with_lease(lease);
+                self.stage.set_lease(lease);
                 Ok(Answer::Set)
             }
             (Stage::Box { lease, .. }, Command::Box) => {
                 let fields = fields_in(line, command)?;
                 let correction = Correction::new(fields.b)?;
                 let kind = TimeKind::new(*lease, fields.a, correction)?;
-                self.stage = mem::take(&mut self.stage).run(AnyKind::Time(kind));
+                self.stage.run(AnyKind::Time(kind));
                 Ok(Answer::Set)
             }
             (Stage::Running { server, .. }, Command::Give) => {

@@ -12,6 +12,7 @@ use disk::{LEAST_SECTORS, MOST_SECTORS};
 use kind::Lease;
 use record::SECTOR_BYTES;
 use server::Server;
+use std::mem;
 
 // What is left of a run that has ended.
 #[derive(Drop)]
@@ -53,42 +54,42 @@ pub enum Stage<'a> {
     Ended(Left<'a>),
 }
 
-impl<'a> Stage<'a> {
-    // The same with a lease, before the box is known.
-    pub(crate) fn with_lease(self, lease: Lease) -> Stage<'a>
-        ensures { view result ≡ leased lease (view self.entry) }
+impl Stage<'_> {
+    // The lease is known, and the box is to come.
+    pub(crate) fn set_lease(&mut self, lease: Lease)
+        ensures { view self.new ≡ leased lease (view self.old) }
     {
-        match self {
+        *self = match mem::take(self) {
             Stage::Kind { disk, spare } => Stage::Box { disk, spare, lease },
             other => other,
-        }
+        };
     }
 
     // The server is put together.
-    pub(crate) fn run(self, kind: AnyKind) -> Stage<'a>
-        ensures { view result ≡ started kind (view self.entry) }
+    pub(crate) fn run(&mut self, kind: AnyKind)
+        ensures { view self.new ≡ started kind (view self.old) }
     {
-        match self {
+        *self = match mem::take(self) {
             Stage::Kind { disk, spare } | Stage::Box { disk, spare, .. } => Stage::Running {
                 server: Server::new(disk, kind),
                 spare,
             },
             other => other,
-        }
+        };
     }
 
     // The run ends.
-    pub(crate) fn end(self) -> Stage<'a>
-        ensures { view result ≡ closed (view self.entry) }
+    pub(crate) fn end(&mut self)
+        ensures { view self.new ≡ closed (view self.old) }
     {
-        let left = match self {
+        *self = Stage::Ended(match mem::take(self) {
             Stage::Device(memory) => Left::Memory(memory),
-            Stage::Kind { disk, spare } => Left::Disk { disk, spare },
-            Stage::Box { disk, spare, .. } => Left::Disk { disk, spare },
+            Stage::Kind { disk, spare } | Stage::Box { disk, spare, .. } => {
+                Left::Disk { disk, spare }
+            }
             Stage::Running { server, spare } => Left::Server { server, spare },
             Stage::Ended(left) => left,
-        };
-        Stage::Ended(left)
+        });
     }
 }
 
