@@ -28,7 +28,8 @@ fn fill_before(columns: &mut [u8], rest: u64)
     }
 }
 
-// A number in all of the columns: its digits at the right end, spaces before them.
+// A number in all of the columns: its digits at the right end, spaces before them. Written by hand, since no clause of std says
+// that `write!` into bytes succeeds.
 fn right_justify(columns: &mut [u8], number: u64)
     ensures { columns.new ≡ justified (length columns.old) number }
 {
@@ -42,9 +43,9 @@ fn right_justify(columns: &mut [u8], number: u64)
 pub(crate) fn write_line(print: &mut [u8; PRINT_BYTES], number: u64, columns: Columns)
     ensures { print.new ≡ printed number columns }
 {
-    right_justify(&mut print[0..6], number);
+    right_justify(&mut print[..6], number);
     right_justify(&mut print[6..10], columns.series);
-    right_justify(&mut print[10..13], columns.code as u64);
+    right_justify(&mut print[10..13], u64::from(columns.code));
     right_justify(&mut print[13..33], columns.last);
     print[33] = b'\n';
 }

@@ -70,10 +70,7 @@ impl Command {
     fn uses_b(self) -> bool
         ensures { result ≡ uses_b self }
     {
-        match self {
-            Command::Serial | Command::Time => false,
-            _ => true,
-        }
+        !matches!(self, Command::Serial | Command::Time)
     }
 }
 
