@@ -4,41 +4,71 @@
 ghost use Rattle.std.specs.Prelude.{◌≤◌, length, IfOk};
 
 use simulator::{PRINT_BYTES, Partial, Simulator};
-use std::io;
-use std::io::{BufWriter, ErrorKind, Read, Write};
+use std::io::{self, BufWriter, ErrorKind, Read, Write};
+use std::ops::ControlFlow;
 
 // The bytes of the disk's memory, and of one read.
 const MEMORY_BYTES: usize = 65_536;
 
 const READ_BYTES: usize = 65_536;
 
-// Takes one line and prints its answer. Tells whether the run has ended.
-fn answer<W: Write>(simulator: &mut Simulator, line: &[u8], out: &mut W) -> io::Result<bool> {
-    let mut print = [0; PRINT_BYTES];
-    let answer = simulator.take(line, &mut print);
-    out.write_all(&print)?;
-    match answer {
-        Ok(_) => Ok(false),
-        Err(denial) => Ok(denial.ends_run()),
-    }
+// A run of the simulator: the line that is being read, and where the answers go.
+#[derive(Drop)]
+struct Session<'a, W> {
+    simulator: Simulator<'a>,
+    partial: Partial,
+    out: W,
 }
 
-// Takes the lines that end in a piece of the input, and holds the last one where it has not ended.
-fn feed<W: Write>(
-    simulator: &mut Simulator,
-    partial: &mut Partial,
-    piece: &[u8],
-    out: &mut W,
-) -> io::Result<bool> {
-    let mut rest = piece;
-    while let Some(count) = partial.fill(rest) {
-        if answer(simulator, partial.line(), out)? {
-            return Ok(true);
+impl<W: Write> Session<'_, W> {
+    // Takes the line that is held and prints its answer. Breaks where the run has ended.
+    fn answer(&mut self) -> io::Result<ControlFlow<()>> {
+        let mut print = [0; PRINT_BYTES];
+        let answer = self.simulator.take(self.partial.line(), &mut print);
+        self.out.write_all(&print)?;
+        if answer.is_err_and(|denial| denial.ends_run()) {
+            return Ok(ControlFlow::Break(()));
         }
-        *partial = Partial::new();
-        rest = &rest[count..];
+        Ok(ControlFlow::Continue(()))
     }
-    Ok(false)
+
+    // Takes the lines that end in a piece of the input, and holds the last one where it has not ended.
+    fn feed(&mut self, piece: &[u8]) -> io::Result<ControlFlow<()>> {
+        let mut rest = piece;
+        while let Some(count) = self.partial.fill(rest) {
+            if self.answer()?.is_break() {
+                return Ok(ControlFlow::Break(()));
+            }
+            self.partial = Partial::new();
+            rest = &rest[count..];
+        }
+        Ok(ControlFlow::Continue(()))
+    }
+
+    // Takes the last line, where it has no line feed.
+    fn finish(&mut self) -> io::Result<()> {
+        if !self.partial.line().is_empty() {
+            self.answer()?;
+        }
+        Ok(())
+    }
+
+    // Takes the lines of one more piece of the input, at its end the last one too. Breaks where there is no more to do.
+    fn take_piece<R: Read>(
+        &mut self,
+        input: &mut R,
+        buffer: &mut [u8],
+    ) -> io::Result<ControlFlow<()>> {
+        let flow = match read_piece(input, buffer)? {
+            0 => {
+                self.finish()?;
+                ControlFlow::Break(())
+            }
+            count => self.feed(&buffer[..count])?,
+        };
+        self.out.flush()?;
+        Ok(flow)
+    }
 }
 
 // The number of bytes that one read gave; a read that a signal broke off is tried again.
@@ -48,57 +78,27 @@ fn read_piece<R: Read>(input: &mut R, buffer: &mut [u8]) -> io::Result<usize>
     for _ in 0..u64::MAX {
         match input.read(buffer) {
             Ok(count) => return Ok(count),
-            Err(error) => {
-                if error.kind() != ErrorKind::Interrupted {
-                    return Err(error);
-                }
-            }
+            Err(error) if error.kind() == ErrorKind::Interrupted => {}
+            Err(error) => return Err(error),
         }
     }
     Ok(0)
 }
 
-// Takes the lines of one more piece of the input, at its end the last one too. Tells whether there is more to do.
-fn take_piece<R: Read, W: Write>(
-    simulator: &mut Simulator,
-    partial: &mut Partial,
-    input: &mut R,
-    buffer: &mut [u8],
-    out: &mut W,
-) -> io::Result<bool> {
-    let count = read_piece(input, buffer)?;
-    let mut ended = count == 0;
-    if !ended {
-        ended = feed(simulator, partial, &buffer[0..count], out)?;
-    } else if !partial.line().is_empty() {
-        answer(simulator, partial.line(), out)?;
-    }
-    out.flush()?;
-    Ok(!ended)
-}
-
 // Reads up to the end of the input, or to the end of the run.
-fn run(rt: &HostRuntime) -> anyhow::Result<()> {
+fn main(rt: HostRuntime) -> anyhow::Result<()> {
     let mut memory = vec![in rt.alloc(); 0u8; MEMORY_BYTES]?;
     let mut buffer = vec![in rt.alloc(); 0u8; READ_BYTES]?;
-    let mut simulator = Simulator::new(&mut memory);
-    let mut partial = Partial::new();
     let mut input = rt.stdin();
-    let mut out = BufWriter::new(rt.alloc(), rt.stdout())?;
+    let mut session = Session {
+        simulator: Simulator::new(&mut memory),
+        partial: Partial::new(),
+        out: BufWriter::new(rt.alloc(), rt.stdout())?,
+    };
     for _ in 0..u64::MAX {
-        if !take_piece(
-            &mut simulator,
-            &mut partial,
-            &mut input,
-            &mut buffer,
-            &mut out,
-        )? {
+        if session.take_piece(&mut input, &mut buffer)?.is_break() {
             break;
         }
     }
     Ok(())
-}
-
-fn main(rt: HostRuntime) -> anyhow::Result<()> {
-    run(&rt)
 }

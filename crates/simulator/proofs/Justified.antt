@@ -1,37 +1,27 @@
 -- A number is written into its columns from the right, and the numbers of a line one after another.
-use Rattle.std.proofs.Common.{◌≡◌, ℕ, zero, suc, ◌+◌, ◌/◌, ◌%◌, ◌<◌, ◌≤◌, List, [], ◌∷◌, ◌++◌, length, get_or, take, drop, set, sym, refl, ap, ◌∙◌, append_assoc, add-one, arith}
+use Rattle.std.proofs.Common.{◌≡◌, ℕ, zero, suc, ◌+◌, ◌/◌, ◌%◌, ◌≤◌, List, [], ◌∷◌, ◌++◌, length, get_or, take, drop, set, sym, refl, ap, ◌∙◌, append_assoc, add-one, arith}
 use borrow.Rule.Slice.PartMut.{put_mid}
-use Rattle.std.proofs.lemmas.List.{length-append, length-drop, length-take-le, take_at, drop_at, set_at, drop-drop, drop_more, drop-set, drop_all, nil_from_length}
+use Rattle.std.proofs.lemmas.List.{length-append, length-drop, length-take-le, take_at, drop_at, set_at, drop-drop, drop_more, drop_all, nil_from_length}
 use Rattle.simulator.specs.Print.{column, before, justified, printed}
 use Rattle.simulator.specs.declared.answer.Columns.{Columns}
 
 -- no columns
+pub no_columns : (xs : List ℕ) (n : ℕ) → length xs ≡ 0 → xs ≡ before (length xs) n
+unfolding before
+no_columns xs n e = rw (nil_from_length xs e)
+
 pub none : (xs : List ℕ) (n : ℕ) → length xs ≡ 0 → xs ≡ justified (length xs) n
 unfolding justified
 none xs n e = rw (nil_from_length xs e)
 
--- the last column
-pub start : (xs : List ℕ) (n last : ℕ) → length xs ≡ suc last → justified (length xs) n ≡ before last (n / 10) ++ drop last (set xs last (48 + n % 10))
-unfolding justified
-start xs n last e =
-    let lt : last < length xs = omega arith in
-    let rest : drop (last + 1) xs ≡ [] = drop_all (last + 1) xs (omega arith) in
-    let d : drop last (set xs last (48 + n % 10)) ≡ (48 + n % 10) ∷ [] = drop-set xs last (48 + n % 10) lt ∙ ap (λ (t : List ℕ). (48 + n % 10) ∷ t) rest in
-    rw (e, d)
-
 -- one column more
-pub more : (whole xs : List ℕ) (i j rest : ℕ) → i ≡ suc j → j < length xs → whole ≡ before i rest ++ drop i xs → whole ≡ before j (rest / 10) ++ drop j (set xs j (column rest))
+pub one_more : (w v n : ℕ) → v + 1 ≡ w → before v (n / 10) ++ (column n ∷ []) ≡ before w n
 unfolding before
-more whole xs i j rest e lt h =
-    let k : i ≡ j + 1 = omega arith in
-    let d : drop j (set xs j (column rest)) ≡ column rest ∷ drop i xs = rw k (drop-set xs j (column rest) lt) in
-    let b : before i rest ≡ before j (rest / 10) ++ (column rest ∷ []) = rw e refl in
-    h ∙ rw b (append_assoc (before j (rest / 10)) (column rest ∷ []) (drop i xs) ∙ ap (λ (t : List ℕ). before j (rest / 10) ++ t) (sym d))
+one_more w v n e = let k : w ≡ suc v = omega arith in rw k refl
 
--- all columns
-pub end : (whole xs : List ℕ) (i rest : ℕ) → i ≡ 0 → whole ≡ before i rest ++ drop i xs → xs ≡ whole
-unfolding before
-end whole xs i rest e h = sym (h ∙ rw e refl)
+pub last_one : (w v n : ℕ) → v + 1 ≡ w → before v (n / 10) ++ ((48 + n % 10) ∷ []) ≡ justified w n
+unfolding justified
+last_one w v n e = let k : w ≡ suc v = omega arith in rw k refl
 
 -- the columns are as many as asked for
 length_before : (w n : ℕ) → length (before w n) ≡ w

@@ -1,16 +1,13 @@
 -- A stream of bytes cut into lines, and how much of a line has to be held.
-use Rattle.std.specs.Prelude.{◌≡◌, ℕ, ◌+◌, min, cond, List, [], ◌∷◌, take, Some, None, Option, ◌==◌}
+use Rattle.std.specs.Prelude.{◌≡◌, ℕ, ◌+◌, List, take, Some, None, Option, option_map, ◌==◌}
+use Rattle.std.specs.List.{position_from}
 use Rattle.simulator.specs.Request.{command_in, fields_in}
 use Rattle.simulator.specs.declared.partial.Partial.{Partial}
 use Rattle.simulator.specs.declared.request.Command.{Command}
 
--- the count of bytes up to the first line feed and with it, if there is one; after so many others
-abbrev pub end_after : ℕ → List ℕ → Option ℕ
-end_after n [] = None
-end_after n (b ∷ bs) = cond (b == 10) (Some (n + 1)) (end_after (n + 1) bs)
-
+-- the count of bytes up to the first line feed and with it, if there is one
 abbrev pub line_end : List ℕ → Option ℕ
-line_end bytes = end_after 0 bytes
+line_end bytes = option_map (λ at. at + 1) (position_from (λ b. b == 10) 0 bytes)
 
 -- the bytes of the first line, or all of them where no line feed comes
 abbrev pub up_to : List ℕ → Option ℕ → List ℕ
@@ -22,7 +19,7 @@ first_bytes bytes = up_to bytes (line_end bytes)
 
 -- the bytes that are held of a line
 abbrev pub held : Partial → List ℕ
-held p = take (min p.count 22) p.bytes
+held p = take p.count p.bytes
 
 -- the first 22 bytes of a line have its command and its fields, or the same first wrong item
 pub record TellsAsMuch : Type 0 where

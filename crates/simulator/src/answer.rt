@@ -70,8 +70,7 @@ impl Denial {
     pub fn ends_run(&self) -> bool
         ensures { result ≡ ends self.now }
     {
-        let number = self.number();
-        2 <= number && number <= 6
+        matches!(self.number(), 2..=6)
     }
 }
 
@@ -86,10 +85,7 @@ fn shown(series: u64) -> u64
 pub fn columns_of(answer: Result<Answer, Denial>) -> Columns
     ensures { result ≡ columns_of answer }
 {
-    let code = match answer {
-        Ok(_) => 0,
-        Err(denial) => denial.number(),
-    };
+    let code = answer.map_or_else(|denial| denial.number(), |_| 0);
     let (series, last) = match answer {
         Ok(Answer::Set) => (0, 0),
         Ok(Answer::Given { series, identifier }) => (shown(series), identifier.0),

@@ -1,31 +1,21 @@
 // A line that is being read: what has to be held of it.
-ghost use Rattle.std.specs.Prelude.{◌≡◌, ◌≤◌, [], ◌++◌, length, take, IfSome};
-ghost use Rattle.simulator.specs.Lines.{line_end, held, first_bytes, TellsAsMuch};
+ghost use Rattle.std.specs.Prelude.{◌≤◌};
 
 // A request line has 21 bytes. One byte more shows that a line is too long, and what follows tells nothing.
 const HELD_BYTES: usize = 22;
 
-// The first bytes of a line that has not ended.
+// The first bytes of a line that has not ended. An array and a count, since an `ArrayVec` is not `Copy`.
 #[derive(Clone, Copy)]
 pub struct Partial {
     bytes: [u8; HELD_BYTES],
     count: usize,
-}
-
-// Where the first line ends: the count of its bytes, with the line feed.
-fn line_end(input: &[u8]) -> Option<usize>
-    ensures end { result ≡ line_end input.now }
-    ensures within { IfSome result (λ n. (1 ≤ n) × (n ≤ length input.now)) }
-{
-    for (i, byte) in input.iter().enumerate() {
-        if *byte == b'\n' {
-            return Some(i + 1);
-        }
-    }
-    None
+    ghost fits: { count ≤ 22 },
 }
 
 impl Partial {
+    ghost use Rattle.std.specs.Prelude.{◌≡◌, ◌≤◌, [], ◌++◌, length, take, IfSome};
+    ghost use Rattle.simulator.specs.Lines.{line_end, held, first_bytes, TellsAsMuch};
+
     // Nothing of a line.
     pub fn new() -> Partial
         ensures { held result ≡ [] }
@@ -40,10 +30,20 @@ impl Partial {
     fn hold(&mut self, input: &[u8])
         ensures { held self.new ≡ take 22 (held self.old ++ input.now) }
     {
-        let at = self.count.min(HELD_BYTES);
-        let more = input.len().min(HELD_BYTES - at);
-        self.bytes[at..at + more].copy_from_slice(&input[0..more]);
-        self.count = at + more;
+        let more = input.len().min(HELD_BYTES - self.count);
+        self.bytes[self.count..self.count + more].copy_from_slice(&input[..more]);
+        self.count += more;
+    }
+
+    // Where the first line ends: the count of its bytes, with the line feed.
+    fn line_end(input: &[u8]) -> Option<usize>
+        ensures end { result ≡ line_end input.now }
+        ensures within { IfSome result (λ n. (1 ≤ n) × (n ≤ length input.now)) }
+    {
+        input
+            .iter()
+            .position(|byte| *byte == b'\n')
+            .map(|at| at + 1)
     }
 
     // Holds the bytes up to the first line feed, and tells how many they are; or all of them, where no line feed comes.
@@ -52,9 +52,9 @@ impl Partial {
         ensures within { IfSome result (λ n. (1 ≤ n) × (n ≤ length input.now)) }
         ensures holds { held self.new ≡ take 22 (held self.old ++ first_bytes input.now) }
     {
-        let end = line_end(input);
+        let end = Partial::line_end(input);
         match end {
-            Some(count) => self.hold(&input[0..count]),
+            Some(count) => self.hold(&input[..count]),
             None => self.hold(input),
         }
         end
@@ -65,7 +65,6 @@ impl Partial {
         ensures bytes { result.now ≡ held self.now }
         ensures enough { TellsAsMuch }
     {
-        let count = self.count.min(HELD_BYTES);
-        &self.bytes[0..count]
+        &self.bytes[..self.count]
     }
 }

@@ -1,6 +1,6 @@
 // The print line: the line's number, the series, the code and a last number, right-justified, and a line feed.
 ghost use Rattle.std.specs.Prelude.{◌≡◌, length};
-ghost use Rattle.simulator.specs.Print.{column, justified, printed};
+ghost use Rattle.simulator.specs.Print.{column, before, justified, printed};
 
 use crate::answer::Columns;
 
@@ -18,29 +18,34 @@ fn column(rest: u64) -> u8
     }
 }
 
-// A number in all of the columns: its digits at the right end, spaces before them.
+// The columns before a number's last digit: the digits of the rest at the right end, spaces before them.
+fn fill_before(columns: &mut [u8], rest: u64)
+    ensures { columns.new ≡ before (length columns.old) rest }
+{
+    if let Some((last, front)) = columns.split_last_mut() {
+        *last = column(rest);
+        fill_before(front, rest / 10);
+    }
+}
+
+// A number in all of the columns: its digits at the right end, spaces before them. Written by hand, since no clause of std says
+// that `write!` into bytes succeeds.
 fn right_justify(columns: &mut [u8], number: u64)
     ensures { columns.new ≡ justified (length columns.old) number }
 {
-    let Some(last) = columns.len().checked_sub(1) else {
-        return;
-    };
-    columns[last] = b'0' + (number % 10) as u8;
-    let mut rest = number / 10;
-    for i in (0..last).rev() {
-        columns[i] = column(rest);
-        rest /= 10;
+    if let Some((last, front)) = columns.split_last_mut() {
+        *last = b'0' + (number % 10) as u8;
+        fill_before(front, number / 10);
     }
 }
 
 // Writes a print line.
-pub(crate) fn write_line(print: &mut [u8], number: u64, columns: Columns)
-    requires { length print.old ≡ 34 }
+pub(crate) fn write_line(print: &mut [u8; PRINT_BYTES], number: u64, columns: Columns)
     ensures { print.new ≡ printed number columns }
 {
-    right_justify(&mut print[0..6], number);
+    right_justify(&mut print[..6], number);
     right_justify(&mut print[6..10], columns.series);
-    right_justify(&mut print[10..13], columns.code as u64);
+    right_justify(&mut print[10..13], u64::from(columns.code));
     right_justify(&mut print[13..33], columns.last);
     print[33] = b'\n';
 }

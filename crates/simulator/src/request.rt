@@ -1,6 +1,7 @@
 // A request line: a letter, two fields and a line feed.
-ghost use Rattle.std.specs.Prelude.{◌≡◌, ◌+◌, ◌≤◌};
-ghost use Rattle.simulator.specs.Request.{command_for, command_in, number_at, is_closed, fields_in, column_of, uses_b};
+ghost use Rattle.std.specs.Prelude.{◌≡◌, ok_or};
+ghost use Rattle.simulator.specs.Request.{command_for, command_in, is_closed, fields_in, column_of, uses_b};
+ghost use Rattle.simulator.specs.declared.request.Item.TheVariants.{Letter};
 
 use crate::field::number_in;
 
@@ -45,67 +46,55 @@ impl Item {
     }
 }
 
-impl Command {
-    // The command that a letter stands for.
-    fn from_letter(letter: char) -> Option<Command>
-        ensures { result ≡ command_for letter }
-    {
+// The command that a letter stands for.
+impl TryFrom<char> for Command {
+    type Error = Item;
+
+    ghost try_from_gives = { λ letter r. r ≡ ok_or (command_for letter) Letter };
+
+    fn try_from(letter: char) -> Result<Command, Item> {
         match letter {
-            'D' => Some(Command::Disk),
-            'S' => Some(Command::Serial),
-            'T' => Some(Command::Time),
-            'B' => Some(Command::Box),
-            'G' => Some(Command::Give),
-            'C' => Some(Command::Cut),
-            _ => None,
+            'D' => Ok(Command::Disk),
+            'S' => Ok(Command::Serial),
+            'T' => Ok(Command::Time),
+            'B' => Ok(Command::Box),
+            'G' => Ok(Command::Give),
+            'C' => Ok(Command::Cut),
+            _ => Err(Item::Letter),
         }
     }
+}
 
+impl Command {
     // Whether field B tells something; where not, it must be 0.
     fn uses_b(self) -> bool
         ensures { result ≡ uses_b self }
     {
-        match self {
-            Command::Serial | Command::Time => false,
-            _ => true,
-        }
+        !matches!(self, Command::Serial | Command::Time)
     }
 }
 
 // The command of a line, by its first byte.
-pub(crate) fn command_in(line: &[u8]) -> Option<Command>
-    ensures { result ≡ command_in line.now }
+pub(crate) fn command_in(line: &[u8]) -> Result<Command, Item>
+    ensures { result ≡ ok_or (command_in line.now) Letter }
 {
-    match line {
-        [letter, ..] => Command::from_letter(char::from(*letter)),
-        [] => None,
-    }
-}
-
-// The number in the bytes from one place up to another; none where the line ends before.
-fn number_at(line: &[u8], from: usize, to: usize) -> Option<u64>
-    requires { (to ≤ from + 18) × (from ≤ to) }
-    ensures { result ≡ number_at line.now from to }
-{
-    if line.len() < to {
-        return None;
-    }
-    number_in(&line[from..to])
+    let letter = line.first().ok_or(Item::Letter)?;
+    Command::try_from(char::from(*letter))
 }
 
 // Whether a line has 21 bytes, the last of them a line feed.
 fn is_closed(line: &[u8]) -> bool
     ensures { result ≡ is_closed line.now }
 {
-    line.len() == 21 && line[20] == b'\n'
+    matches!(line.get(20..), Some([b'\n']))
 }
 
 // The fields of a line, or its first item after the letter that is wrong.
 pub(crate) fn fields_in(line: &[u8], command: Command) -> Result<Fields, Item>
     ensures { result ≡ fields_in command line.now }
 {
-    let a = number_at(line, 1, 6).ok_or(Item::A)?;
-    let b = number_at(line, 6, 20).ok_or(Item::B)?;
+    let a = line.get(1..6).and_then(number_in).ok_or(Item::A)?;
+    let b = line.get(6..20).and_then(number_in).ok_or(Item::B)?;
     if b != 0 && !command.uses_b() {
         return Err(Item::B);
     }

@@ -1,16 +1,16 @@
 // The simulator: one call, a request line in and a print line out.
-ghost use Rattle.std.specs.Prelude.{◌≡◌, ◌≤◌, length};
+ghost use Rattle.std.specs.Prelude.{◌≡◌, min};
 ghost use Rattle.simulator.specs.Columns.{NumbersInColumns};
 ghost use Rattle.simulator.specs.Stages.{view, awaits_disk, memory_of};
 ghost use Rattle.simulator.specs.Steps.{Steps};
-ghost use Rattle.simulator.specs.Takes.{Takes, Taken, Answered, finished, stage_bytes};
+ghost use Rattle.simulator.specs.Takes.{Takes, Answered, finished, stage_bytes};
 
 use crate::answer::{Answer, Denial, columns_of};
 use crate::any_kind::AnyKind;
-use crate::device::open;
+use crate::device::{Make, open};
 use crate::print::{PRINT_BYTES, write_line};
 use crate::request::{Command, Item, command_in, fields_in};
-use crate::stage::{Left, Stage, has_room, make_for};
+use crate::stage::{Stage, has_room};
 use disk::Disk;
 use kind::{Correction, Lease, SerialKind, TimeKind};
 use record::Reading;
@@ -25,6 +25,13 @@ pub struct Simulator<'a> {
 
 // The last line number that is lawful.
 const LAST_LINE: u64 = 999_999;
+
+// The series that a server is asked for: 255 for one that is above it.
+fn asked_series(series: u64) -> u8
+    ensures { result ≡ min series 255 }
+{
+    u8::try_from(series).unwrap_or(u8::MAX)
+}
 
 impl<'a> Simulator<'a> {
     // A run that has taken no line, over memory for a disk.
@@ -44,21 +51,12 @@ impl<'a> Simulator<'a> {
         ensures memory { stage_bytes self.new.stage ≡ memory_of (view self.new.stage) }
         ensures numbers { NumbersInColumns }
     {
-        if print.len() < PRINT_BYTES {
+        let Some(print) = print.first_chunk_mut::<PRINT_BYTES>() else {
             return Err(Denial::ShortPrint);
-        }
-        self.take_line(line, print)
-    }
-
-    // The same where the print line is long enough.
-    fn take_line(&mut self, line: &[u8], print: &mut [u8]) -> Result<Answer, Denial>
-        requires { 34 ≤ length print.old }
-        ensures { Taken (view self.old.stage) self.old.taken line.now print.old result (view self.new.stage) self.new.taken print.new }
-    {
+        };
         self.taken = self.taken.saturating_add(1);
         let answer = self.answer(line);
-        let number = self.taken.min(LAST_LINE);
-        write_line(&mut print[0..PRINT_BYTES], number, columns_of(answer));
+        write_line(print, self.taken.min(LAST_LINE), columns_of(answer));
         answer
     }
 
@@ -81,11 +79,8 @@ impl<'a> Simulator<'a> {
         ensures count { self.new.taken ≡ self.old.taken }
         ensures ends { view self.new.stage ≡ finished answer (view self.old.stage) }
     {
-        if let Err(denial) = answer {
-            if denial.ends_run() {
-                let stage = mem::replace(&mut self.stage, Stage::Ended(Left::Nothing));
-                self.stage = stage.end();
-            }
+        if answer.is_err_and(|denial| denial.ends_run()) {
+            self.stage.end();
         }
     }
 
@@ -94,18 +89,18 @@ impl<'a> Simulator<'a> {
         ensures count { self.new.taken ≡ self.old.taken }
         ensures steps { Steps (view self.old.stage) line.now result (view self.new.stage) }
     {
-        if let Stage::Ended(_) = &self.stage {
+        if matches!(self.stage, Stage::Ended(_)) {
             return Err(Denial::Ended);
         }
-        let command = command_in(line).ok_or(Item::Letter)?;
+        let command = command_in(line)?;
         match (&mut self.stage, command) {
             (Stage::Device(memory), Command::Disk) => {
                 let fields = fields_in(line, command)?;
                 if !has_room(memory.len(), fields.b) {
                     return Err(Denial::Size);
                 }
-                let make = make_for(fields.a).ok_or(Denial::NoDevice)?;
-                let memory = mem::replace(memory, &mut []);
+                let make = Make::try_from(fields.a)?;
+                let memory = mem::take(memory);
                 let (disk, spare) = open(make, memory, fields.b as usize);
                 self.stage = Stage::Kind { disk, spare };
                 Ok(Answer::Set)
@@ -113,39 +108,36 @@ impl<'a> Simulator<'a> {
             (Stage::Kind { .. }, Command::Serial) => {
                 let fields = fields_in(line, command)?;
                 let kind = SerialKind::new(fields.a)?;
-                let stage = mem::replace(&mut self.stage, Stage::Ended(Left::Nothing));
-                self.stage = stage.run(AnyKind::Serial(kind));
+                self.stage.run(AnyKind::Serial(kind));
                 Ok(Answer::Set)
             }
             (Stage::Kind { .. }, Command::Time) => {
                 let fields = fields_in(line, command)?;
                 let lease = Lease::new(fields.a)?;
-                let stage = mem::replace(&mut self.stage, Stage::Ended(Left::Nothing));
-                self.stage = stage.with_lease(lease);
+                self.stage.set_lease(lease);
                 Ok(Answer::Set)
             }
             (Stage::Box { lease, .. }, Command::Box) => {
                 let fields = fields_in(line, command)?;
                 let correction = Correction::new(fields.b)?;
                 let kind = TimeKind::new(*lease, fields.a, correction)?;
-                let stage = mem::replace(&mut self.stage, Stage::Ended(Left::Nothing));
-                self.stage = stage.run(AnyKind::Time(kind));
+                self.stage.run(AnyKind::Time(kind));
                 Ok(Answer::Set)
             }
             (Stage::Running { server, .. }, Command::Give) => {
                 let fields = fields_in(line, command)?;
                 let series = fields.a;
-                match server.give(series.min(255) as u8, Reading(fields.b)) {
-                    Ok(identifier) => Ok(Answer::Given { series, identifier }),
-                    Err(fault) => Err(Denial::NotGiven { series, fault }),
-                }
+                server
+                    .give(asked_series(series), Reading(fields.b))
+                    .map(|identifier| Answer::Given { series, identifier })
+                    .map_err(|fault| Denial::NotGiven { series, fault })
             }
             (Stage::Running { server, .. }, Command::Cut) => {
                 let fields = fields_in(line, command)?;
-                match server.cut(fields.a, fields.b) {
-                    Ok(top) => Ok(Answer::Woken(top)),
-                    Err(fault) => Err(Denial::NotWoken(fault)),
-                }
+                server
+                    .cut(fields.a, fields.b)
+                    .map(Answer::Woken)
+                    .map_err(Denial::NotWoken)
             }
             _ => Err(Denial::Malformed(Item::Letter)),
         }

@@ -1,6 +1,9 @@
 // Where a run stands, by the lines that were taken.
-ghost use Rattle.std.specs.Prelude.{◌≡◌};
+ghost use Rattle.std.specs.Prelude.{◌≡◌, ok_or};
 ghost use Rattle.simulator.specs.Stages.{view, started, leased, closed, room, make_for};
+ghost use Rattle.simulator.specs.declared.answer.Denial.TheVariants.{NoDevice};
+ghost use Rattle.simulator.specs.declared.stage.Left.TheVariants.{Nothing};
+ghost use Rattle.simulator.specs.declared.stage.Stage.TheVariants.{Ended};
 
 use crate::answer::Denial;
 use crate::any_kind::AnyKind;
@@ -9,6 +12,7 @@ use disk::{LEAST_SECTORS, MOST_SECTORS};
 use kind::Lease;
 use record::SECTOR_BYTES;
 use server::Server;
+use std::mem;
 
 // What is left of a run that has ended.
 #[derive(Drop)]
@@ -50,53 +54,66 @@ pub enum Stage<'a> {
     Ended(Left<'a>),
 }
 
-impl<'a> Stage<'a> {
-    // The same with a lease, before the box is known.
-    pub(crate) fn with_lease(self, lease: Lease) -> Stage<'a>
-        ensures { view result ≡ leased lease (view self.entry) }
+impl Stage<'_> {
+    // The lease is known, and the box is to come.
+    pub(crate) fn set_lease(&mut self, lease: Lease)
+        ensures { view self.new ≡ leased lease (view self.old) }
     {
-        match self {
+        *self = match mem::take(self) {
             Stage::Kind { disk, spare } => Stage::Box { disk, spare, lease },
             other => other,
-        }
+        };
     }
 
     // The server is put together.
-    pub(crate) fn run(self, kind: AnyKind) -> Stage<'a>
-        ensures { view result ≡ started kind (view self.entry) }
+    pub(crate) fn run(&mut self, kind: AnyKind)
+        ensures { view self.new ≡ started kind (view self.old) }
     {
-        match self {
+        *self = match mem::take(self) {
             Stage::Kind { disk, spare } | Stage::Box { disk, spare, .. } => Stage::Running {
                 server: Server::new(disk, kind),
                 spare,
             },
             other => other,
-        }
+        };
     }
 
     // The run ends.
-    pub(crate) fn end(self) -> Stage<'a>
-        ensures { view result ≡ closed (view self.entry) }
+    pub(crate) fn end(&mut self)
+        ensures { view self.new ≡ closed (view self.old) }
     {
-        let left = match self {
+        *self = Stage::Ended(match mem::take(self) {
             Stage::Device(memory) => Left::Memory(memory),
-            Stage::Kind { disk, spare } => Left::Disk { disk, spare },
-            Stage::Box { disk, spare, .. } => Left::Disk { disk, spare },
+            Stage::Kind { disk, spare } | Stage::Box { disk, spare, .. } => {
+                Left::Disk { disk, spare }
+            }
             Stage::Running { server, spare } => Left::Server { server, spare },
             Stage::Ended(left) => left,
-        };
-        Stage::Ended(left)
+        });
+    }
+}
+
+// No memory is left: what stands in a stage's place while the next one is made of it.
+impl Default for Stage<'_> {
+    ghost is_default = { λ r. r ≡ Ended Nothing };
+
+    fn default() -> Self {
+        Stage::Ended(Left::Nothing)
     }
 }
 
 // The disk that a number stands for.
-pub(crate) fn make_for(number: u64) -> Option<Make>
-    ensures { result ≡ make_for number }
-{
-    match number {
-        0 => Some(Make::Faithful),
-        1 => Some(Make::Torn),
-        _ => None,
+impl TryFrom<u64> for Make {
+    type Error = Denial;
+
+    ghost try_from_gives = { λ number r. r ≡ ok_or (make_for number) NoDevice };
+
+    fn try_from(number: u64) -> Result<Make, Denial> {
+        match number {
+            0 => Ok(Make::Faithful),
+            1 => Ok(Make::Torn),
+            _ => Err(Denial::NoDevice),
+        }
     }
 }
 
@@ -104,7 +121,6 @@ pub(crate) fn make_for(number: u64) -> Option<Make>
 pub(crate) fn has_room(bytes: usize, sectors: u64) -> bool
     ensures { result ≡ room bytes sectors }
 {
-    LEAST_SECTORS as u64 <= sectors
-        && sectors <= MOST_SECTORS as u64
+    (LEAST_SECTORS as u64..=MOST_SECTORS as u64).contains(&sectors)
         && SECTOR_BYTES as u64 * sectors <= bytes as u64
 }

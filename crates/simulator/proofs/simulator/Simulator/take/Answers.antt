@@ -4,10 +4,10 @@ use Rattle.simulator.proofs.Bytes.{of_stage}
 use Rattle.simulator.proofs.Spelled.{numbers_in_columns}
 use Rattle.simulator.proofs.simulator.Simulator.take.Goals as goal
 
-pub returns-then-print-lt-PRINT_BYTES : goal.returns-then-print-lt-PRINT_BYTES
-returns-then-print-lt-PRINT_BYTES c =
+pub returns-in_default : goal.returns-in_default
+returns-in_default c =
     record { takes = search rules; memory = of_stage c.args.self.now.stage; numbers = numbers_in_columns }
 
 pub returns : goal.returns
 returns c =
-    record { takes = search rules; memory = of_stage c.take_line.new.self.stage; numbers = numbers_in_columns }
+    record { takes = search rules; memory = of_stage c.answer-answer.new.self.stage; numbers = numbers_in_columns }
