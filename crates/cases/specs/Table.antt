@@ -9,7 +9,8 @@ use Rattle.kind.specs.declared.time.TimeKind.{TimeKind}
 use Rattle.server.specs.Faults.{number_of}
 use Rattle.server.specs.Rules.{Decision, refuse, hand, reserve, decision, woken}
 use Rattle.server.specs.declared.state.Up.{Up}
-use Rattle.simulator.specs.Stages.{runs, numbering_of}
+use Rattle.simulator.specs.Kinds.{numbering_of}
+use Rattle.simulator.specs.Stages.{runs}
 use Rattle.simulator.specs.declared.any_kind.AnyKind.{AnyKind}
 use Rattle.simulator.specs.declared.any_kind.AnyKind.TheVariants.{Serial, Time}
 use Rattle.simulator.specs.declared.device.Make.TheVariants.{Faithful}

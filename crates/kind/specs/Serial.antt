@@ -7,6 +7,7 @@ use Rattle.kind.specs.declared.fault.SettingFault.{SettingFault}
 use Rattle.kind.specs.declared.fault.SettingFault.TheVariants.{BlockSize}
 use Rattle.kind.specs.declared.serial.SerialKind.{SerialKind}
 use Rattle.kind.specs.Fault.{nearest, provided}
+use Rattle.kind.specs.Meaning.{Numbering}
 
 -- a block size from 1 to 10,000 makes a kind, and any other is denied
 abbrev pub serial_kind_of : ℕ → Result SerialKind SettingFault
@@ -31,3 +32,14 @@ serial_floor _ _ = Some (record { 0 = 0 })
 -- in each series the first label says 1
 abbrev pub serial_identifier : SerialKind → ℕ → Rank → Identifier
 serial_identifier _ _ rank = record { 0 = rank.0 + 1 }
+
+-- what a serial kind tells
+abbrev pub serial_numbering : SerialKind → Numbering
+serial_numbering kind =
+    record {
+      tag = serial_tag kind;
+      top = serial_top kind;
+      block = serial_block kind;
+      floor = serial_floor kind;
+      identifier = serial_identifier kind;
+    }

@@ -10,6 +10,7 @@ use Rattle.kind.specs.declared.time.Correction.{Correction}
 use Rattle.kind.specs.declared.time.Lease.{Lease}
 use Rattle.kind.specs.declared.time.TimeKind.{TimeKind}
 use Rattle.kind.specs.Fault.{nearest, provided}
+use Rattle.kind.specs.Meaning.{Numbering}
 use Rattle.kind.specs.Snowflake.{packed}
 
 -- a lease is 1 to 60,000 milliseconds
@@ -62,3 +63,14 @@ worker_of kind series = 8 * nearest 0 127 kind.box_number + series
 abbrev pub time_identifier : TimeKind → ℕ → Rank → Identifier
 time_identifier kind series rank =
     packed (record { milliseconds = rank.0 / 4096; worker = worker_of kind series; step = rank.0 % 4096 })
+
+-- what a time kind tells
+abbrev pub time_numbering : TimeKind → Numbering
+time_numbering kind =
+    record {
+      tag = time_tag kind;
+      top = time_top kind;
+      block = time_block kind;
+      floor = time_floor kind;
+      identifier = time_identifier kind;
+    }

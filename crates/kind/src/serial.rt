@@ -1,6 +1,6 @@
 // Serial identifiers: 1, 2, 3 and so on, whatever the clock says.
 ghost use Rattle.std.specs.Prelude.{◌≡◌};
-ghost use Rattle.kind.specs.Serial.{serial_block, serial_floor, serial_identifier, serial_kind_of, serial_tag, serial_top};
+ghost use Rattle.kind.specs.Serial.{serial_kind_of, serial_numbering};
 ghost use Rattle.std.proofs.Common.{rules};
 
 use crate::fault::SettingFault;
@@ -30,25 +30,9 @@ impl SerialKind {
 }
 
 impl Kind for SerialKind {
-    ghost tag = { serial_tag };
+    ghost numbering = { serial_numbering };
 
-    ghost top = { serial_top };
-
-    ghost block = { serial_block };
-
-    ghost floor = { serial_floor };
-
-    ghost identifier = { serial_identifier };
-
-    ghost tag_fits = { Prim.search rules };
-
-    ghost top_fits = { Prim.search rules };
-
-    ghost block_least = { Prim.search rules };
-
-    ghost block_most = { Prim.search rules };
-
-    ghost rising = { Prim.search rules };
+    ghost lawful = { Prim.search rules };
 
     fn tag(&self) -> u8 {
         1

@@ -1,6 +1,6 @@
 // Time-sequenced identifiers: a rank is a millisecond and a step within it.
 ghost use Rattle.std.specs.Prelude.{◌≡◌};
-ghost use Rattle.kind.specs.Time.{correction_of, corrected_by, lease_of, seconds_of, time_block, time_floor, time_identifier, time_kind_of, time_tag, time_top};
+ghost use Rattle.kind.specs.Time.{correction_of, corrected_by, lease_of, seconds_of, time_kind_of, time_numbering};
 ghost use Rattle.std.proofs.Common.{rules};
 
 use crate::fault::SettingFault;
@@ -97,25 +97,9 @@ impl TimeKind {
 }
 
 impl Kind for TimeKind {
-    ghost tag = { time_tag };
+    ghost numbering = { time_numbering };
 
-    ghost top = { time_top };
-
-    ghost block = { time_block };
-
-    ghost floor = { time_floor };
-
-    ghost identifier = { time_identifier };
-
-    ghost tag_fits = { Prim.search rules };
-
-    ghost top_fits = { Prim.search rules };
-
-    ghost block_least = { Prim.search rules };
-
-    ghost block_most = { Prim.search rules };
-
-    ghost rising = { Prim.search rules };
+    ghost lawful = { Prim.search rules };
 
     fn tag(&self) -> u8 {
         2
