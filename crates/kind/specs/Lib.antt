@@ -1,5 +1,6 @@
 pub mod Fault
 pub mod Meaning
+pub mod Range
 pub mod Serial
 pub mod Snowflake
 pub mod Time

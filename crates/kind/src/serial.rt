@@ -1,7 +1,6 @@
 // Serial identifiers: 1, 2, 3 and so on, whatever the clock says.
 ghost use Rattle.std.specs.Prelude.{◌≡◌};
-ghost use Rattle.kind.specs.Serial.{serial_kind_of, serial_numbering};
-ghost use Rattle.std.proofs.Common.{rules};
+ghost use Rattle.kind.specs.Range.{IsWithin};
 
 use crate::fault::SettingFault;
 use crate::meaning::Kind;
@@ -10,14 +9,16 @@ use record::{Identifier, Rank, Reading};
 // The largest block.
 const LARGEST: u64 = 10_000;
 
-// The serial kind. The size of its blocks is tested when the kind is made, and brought into its range again where it is
-// used, so that the laws hold of every value of this type.
+// The serial kind, with the size of its blocks.
 #[derive(Clone, Copy)]
 pub struct SerialKind {
     size: u64,
+    ghost in_range: { IsWithin 1 10000 size },
 }
 
 impl SerialKind {
+    ghost use Rattle.kind.specs.Serial.{serial_kind_of};
+
     // The kind with blocks of 1 to 10,000 ranks; any other size is denied.
     pub fn new(size: u64) -> Result<SerialKind, SettingFault>
         ensures { result ≡ serial_kind_of size }
@@ -30,6 +31,9 @@ impl SerialKind {
 }
 
 impl Kind for SerialKind {
+    ghost use Rattle.kind.specs.Serial.{serial_numbering};
+    ghost use Rattle.std.proofs.Common.{rules};
+
     ghost numbering = { serial_numbering };
 
     ghost lawful = { Prim.search rules };
@@ -43,7 +47,7 @@ impl Kind for SerialKind {
     }
 
     fn block_size(&self) -> u64 {
-        self.size.clamp(1, LARGEST)
+        self.size
     }
 
     fn floor(&self, _reading: Reading) -> Option<Rank> {

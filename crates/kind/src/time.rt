@@ -1,7 +1,6 @@
 // Time-sequenced identifiers: a rank is a millisecond and a step within it.
 ghost use Rattle.std.specs.Prelude.{◌≡◌};
-ghost use Rattle.kind.specs.Time.{correction_of, corrected_by, lease_of, seconds_of, time_kind_of, time_numbering};
-ghost use Rattle.std.proofs.Common.{rules};
+ghost use Rattle.kind.specs.Range.{IsWithin};
 
 use crate::fault::SettingFault;
 use crate::meaning::Kind;
@@ -19,9 +18,14 @@ const LAST_BOX: u64 = 127;
 
 // The time that the ranks of one reservation last, in milliseconds.
 #[derive(Clone, Copy)]
-pub struct Lease(u64);
+pub struct Lease {
+    milliseconds: u64,
+    ghost in_range: { IsWithin 1 60000 milliseconds },
+}
 
 impl Lease {
+    ghost use Rattle.kind.specs.Time.{lease_of};
+
     // A lease of 1 to 60,000 milliseconds; any other is denied.
     pub fn new(milliseconds: u64) -> Result<Lease, SettingFault>
         ensures { result ≡ lease_of milliseconds }
@@ -29,7 +33,7 @@ impl Lease {
         if milliseconds < 1 || milliseconds > LONGEST {
             return Err(SettingFault::Lease);
         }
-        Ok(Lease(milliseconds))
+        Ok(Lease { milliseconds })
     }
 }
 
@@ -38,6 +42,8 @@ impl Lease {
 pub struct Correction(pub u8);
 
 impl Correction {
+    ghost use Rattle.kind.specs.Time.{correction_of, corrected_by, seconds_of};
+
     // The correction in a byte of 0 to 255; any other number is denied.
     pub fn new(byte: u64) -> Result<Correction, SettingFault>
         ensures { result ≡ correction_of byte }
@@ -67,16 +73,18 @@ impl Correction {
     }
 }
 
-// The time kind of one box. A setting is tested when the kind is made, and brought into its range again where it is
-// used, so that the laws hold of every value of this type.
+// The time kind of one box.
 #[derive(Clone, Copy)]
 pub struct TimeKind {
     lease: Lease,
     box_number: u64,
     correction: Correction,
+    ghost in_range: { IsWithin 0 127 box_number },
 }
 
 impl TimeKind {
+    ghost use Rattle.kind.specs.Time.{time_kind_of};
+
     // The kind of a box with a number of 0 to 127; any other is denied.
     pub fn new(
         lease: Lease,
@@ -97,6 +105,9 @@ impl TimeKind {
 }
 
 impl Kind for TimeKind {
+    ghost use Rattle.kind.specs.Time.{time_numbering};
+    ghost use Rattle.std.proofs.Common.{rules};
+
     ghost numbering = { time_numbering };
 
     ghost lawful = { Prim.search rules };
@@ -110,7 +121,7 @@ impl Kind for TimeKind {
     }
 
     fn block_size(&self) -> u64 {
-        STEPS * self.lease.0.clamp(1, LONGEST)
+        STEPS * self.lease.milliseconds
     }
 
     fn floor(&self, reading: Reading) -> Option<Rank> {
@@ -124,7 +135,7 @@ impl Kind for TimeKind {
         }
         let parts = Parts {
             milliseconds: rank.0 / STEPS,
-            worker: 8 * self.box_number.min(LAST_BOX) + u64::from(series),
+            worker: 8 * self.box_number + u64::from(series),
             step: rank.0 % STEPS,
         };
         pack(parts).ok()

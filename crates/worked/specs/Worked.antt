@@ -1,5 +1,6 @@
 -- A history, call by call: a request, a request that a power cut stops in its reservation, the cut, and a request.
 use Rattle.std.specs.Prelude.{◌≡◌, ℕ, false, List, [], ◌∷◌, replicate, Some, Ok, Err, slice_set}
+use Rattle.std.proofs.Common.{lit≤}
 use Rattle.record.specs.Sector.{sound, encoded}
 use Rattle.record.specs.declared.sector.Record.{Record}
 use Rattle.disk.specs.Devices.{mixture, left_sectors}
@@ -19,7 +20,7 @@ use Rattle.worked.specs.Blank.{zeros, cleared}
 
 -- the serial kind that reserves one rank at a time, on a disk of ten cleared sectors with three writes and flushes to succeed
 abbrev pub one_by_one : Numbering
-one_by_one = serial_numbering (record { size = 1 })
+one_by_one = serial_numbering (record { size = 1; in_range = (lit≤ tt, lit≤ tt) })
 
 abbrev pub start : Meaning
 start = cleared 10 3
