@@ -10,7 +10,7 @@ use record::{Identifier, Rank, Reading};
 const LARGEST: u64 = 10_000;
 
 // The serial kind, with the size of its blocks.
-#[derive(Clone, Copy)]
+#[derive(Clone, Copy, PartialEq, Eq, Debug)]
 pub struct SerialKind {
     size: u64,
     ghost in_range: { IsWithin 1 10000 size },
@@ -55,7 +55,7 @@ impl Kind for SerialKind {
     }
 
     fn identifier(&self, series: u8, rank: Rank) -> Option<Identifier> {
-        if series > 7 || rank.0 > self.top().0 {
+        if series > 7 || rank > self.top() {
             return None;
         }
         Some(Identifier(rank.0 + 1))

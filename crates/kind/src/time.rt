@@ -17,7 +17,7 @@ const LONGEST: u64 = 60_000;
 const LAST_BOX: u64 = 127;
 
 // The time that the ranks of one reservation last, in milliseconds.
-#[derive(Clone, Copy)]
+#[derive(Clone, Copy, PartialEq, Eq, Debug)]
 pub struct Lease {
     milliseconds: u64,
     ghost in_range: { IsWithin 1 60000 milliseconds },
@@ -38,7 +38,7 @@ impl Lease {
 }
 
 // By how many seconds the clock is to be set right: a byte that holds a two's complement number.
-#[derive(Clone, Copy)]
+#[derive(Clone, Copy, PartialEq, Eq, Debug)]
 pub struct Correction(pub u8);
 
 impl Correction {
@@ -48,10 +48,9 @@ impl Correction {
     pub fn new(byte: u64) -> Result<Correction, SettingFault>
         ensures { result ≡ correction_of byte }
     {
-        if byte > 255 {
-            return Err(SettingFault::Correction);
-        }
-        Ok(Correction(byte as u8))
+        u8::try_from(byte)
+            .map(Correction)
+            .map_err(|_| SettingFault::Correction)
     }
 
     // The number in the byte, from -128 to 127.
@@ -66,15 +65,12 @@ impl Correction {
         ensures { result ≡ corrected_by self raw }
     {
         let milliseconds = raw.0.checked_add_signed(1000 * self.seconds())?;
-        if milliseconds >= 1 << 41 {
-            return None;
-        }
-        Some(Reading(milliseconds))
+        (milliseconds < 1 << 41).then_some(Reading(milliseconds))
     }
 }
 
 // The time kind of one box.
-#[derive(Clone, Copy)]
+#[derive(Clone, Copy, PartialEq, Eq, Debug)]
 pub struct TimeKind {
     lease: Lease,
     box_number: u64,
@@ -130,7 +126,7 @@ impl Kind for TimeKind {
     }
 
     fn identifier(&self, series: u8, rank: Rank) -> Option<Identifier> {
-        if series > 7 || rank.0 > self.top().0 {
+        if series > 7 || rank > self.top() {
             return None;
         }
         let parts = Parts {

@@ -65,14 +65,13 @@ impl<D: Disk, K: Kind> Server<D, K> {
         if series >= 8 {
             return Err(ServerFault::Series(series));
         }
-        let Some(floor) = self.kind.floor(reading) else {
-            return Err(ServerFault::Reading);
-        };
-        let rank = Rank(up.next(series).0.max(floor.0));
-        let Some(identifier) = self.kind.identifier(series, rank) else {
-            return Err(ServerFault::AboveTop);
-        };
-        if rank.0 >= up.ring.end(series).0 {
+        let floor = self.kind.floor(reading).ok_or(ServerFault::Reading)?;
+        let rank = up.next(series).max(floor);
+        let identifier = self
+            .kind
+            .identifier(series, rank)
+            .ok_or(ServerFault::AboveTop)?;
+        if rank >= up.ring.end(series) {
             up = self.extend(up, series, rank)?;
         }
         self.state = State::Up(up.with_next(series, Rank(rank.0 + 1)));
