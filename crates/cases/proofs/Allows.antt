@@ -14,6 +14,7 @@ use Rattle.kind.specs.declared.time.Lease.{Lease}
 use Rattle.kind.specs.declared.time.TimeKind.{TimeKind}
 use Rattle.kind.specs.Serial.{serial_kind_of}
 use Rattle.kind.specs.Time.{lease_of, correction_of, time_kind_of}
+use Rattle.kind.specs.Meaning.{Numbering}
 use Rattle.ring.specs.Left.{LawfulReservation}
 use Rattle.ring.specs.Operations.{Op, Went, performed, outcome, dark}
 use Rattle.ring.specs.Ring.{known, plan, gap, slot, holds_live, is_foreign, first_of, foreign_below, scanned, settled, Agrees, Step}
@@ -25,15 +26,16 @@ use Rattle.ring.specs.declared.token.Reserved.{Reserved}
 use Rattle.ring.proofs.Leaves.{cut_within, reserved_whole, operations_counted}
 use Rattle.ring.proofs.Reserves.{may_from}
 use Rattle.ring.proofs.Starts.{agrees_recovers, recovers_agrees}
-use Rattle.server.specs.Rules.{Numbering, Decision, refuse, hand, reserve, decision, block_end, format, awake, stopped, woken, Does as GaveUp, Gave}
+use Rattle.server.specs.Rules.{Decision, refuse, hand, reserve, decision, block_end, format, awake, stopped, woken, Does as GaveUp, Gave}
 use Rattle.server.specs.declared.fault.ServerFault.{ServerFault}
 use Rattle.server.specs.declared.state.State.{State}
 use Rattle.server.specs.declared.state.State.TheVariants.{Up as Awake, Down}
 use Rattle.server.specs.declared.state.Up.{Up}
 use Rattle.simulator.specs.Answers.{ends}
 use Rattle.simulator.specs.Devices.{cut_by}
+use Rattle.simulator.specs.Kinds.{numbering_of}
 use Rattle.simulator.specs.Request.{command_in, fields_in}
-use Rattle.simulator.specs.Stages.{View, awaits_disk, awaits_kind, awaits_box, runs, has_ended, closed, numbering_of, make_for, room}
+use Rattle.simulator.specs.Stages.{View, awaits_disk, awaits_kind, awaits_box, runs, has_ended, closed, make_for, room}
 use Rattle.simulator.specs.Steps.{Done, denied, opened, with_make, with_serial, with_lease, with_time, with_correction, Asked, settles, gives, cuts, by_fields, asked, Comes, Does, Steps}
 use Rattle.simulator.specs.Takes.{counted, finished}
 use Rattle.simulator.specs.declared.answer.Answer.{Answer}

@@ -4,12 +4,13 @@ use Rattle.record.specs.declared.numbers.Identifier.{Identifier}
 use Rattle.record.specs.declared.numbers.Rank.{Rank}
 use Rattle.record.specs.declared.numbers.Sequence.{Sequence}
 use Rattle.disk.specs.Meaning.{Meaning}
+use Rattle.kind.specs.Meaning.{Numbering}
 use Rattle.ring.specs.Operations.{performed, outcome}
 use Rattle.ring.specs.Ring.{plan, known, recovered}
 use Rattle.ring.specs.Search.{refusal}
 use Rattle.ring.specs.declared.fault.RingFault.{RingFault}
 use Rattle.ring.specs.declared.token.Reserved.{Reserved}
-use Rattle.server.specs.Rules.{Numbering, Decision, refuse, hand, reserve, decision, block_end, given, stopped, woken, top_told, format}
+use Rattle.server.specs.Rules.{Decision, refuse, hand, reserve, decision, block_end, given, stopped, woken, top_told, format}
 use Rattle.server.specs.declared.fault.ServerFault.{ServerFault}
 use Rattle.server.specs.declared.fault.ServerFault.TheVariants.{Down as WasDown, Ring as OfRing}
 use Rattle.server.specs.declared.state.State.{State}
@@ -17,10 +18,11 @@ use Rattle.server.specs.declared.state.State.TheVariants.{Up as Awake, Down}
 use Rattle.server.specs.declared.state.Up.{Up}
 use Rattle.simulator.specs.Answers.{ends, columns_of}
 use Rattle.simulator.specs.Devices.{cut_by}
+use Rattle.simulator.specs.Kinds.{numbering_of}
 use Rattle.simulator.specs.Lines.{line_end, up_to}
 use Rattle.simulator.specs.Print.{printed}
 use Rattle.simulator.specs.Request.{command_in}
-use Rattle.simulator.specs.Stages.{View, awaits_disk, awaits_kind, awaits_box, runs, has_ended, numbering_of}
+use Rattle.simulator.specs.Stages.{View, awaits_disk, awaits_kind, awaits_box, runs, has_ended}
 use Rattle.simulator.specs.Steps.{Done, denied, Asked, settles, gives, cuts, asked, given as told_of_request, woken_up}
 use Rattle.simulator.specs.Takes.{counted, shown_number, finished}
 use Rattle.simulator.specs.declared.answer.Answer.{Answer}

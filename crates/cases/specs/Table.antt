@@ -1,6 +1,8 @@
 -- Worked cases of the rules, as a table under one statement.
-use Rattle.std.specs.Prelude.{◌≡◌, ℕ, ◌+◌, ◌*◌, List, [], ◌∷◌, ◌++◌, length, replicate, ℤ, pos, negsuc, Some, codes, slice_set}
+use Rattle.std.specs.Prelude.{◌≡◌, ℕ, ◌+◌, ◌*◌, min, List, [], ◌∷◌, ◌++◌, length, replicate, ℤ, pos, negsuc, Some, codes, slice_set}
 use Rattle.std.specs.List.{flat_map, AllByRecursion}
+use Rattle.std.proofs.Common.{lit≤, zero-le}
+use Rattle.std.proofs.Math.Nat.{min-le_right}
 use Rattle.record.specs.Crc.{crc}
 use Rattle.record.specs.Sector.{encoded}
 use Rattle.disk.specs.Meaning.{Meaning}
@@ -9,7 +11,8 @@ use Rattle.kind.specs.declared.time.TimeKind.{TimeKind}
 use Rattle.server.specs.Faults.{number_of}
 use Rattle.server.specs.Rules.{Decision, refuse, hand, reserve, decision, woken}
 use Rattle.server.specs.declared.state.Up.{Up}
-use Rattle.simulator.specs.Stages.{runs, numbering_of}
+use Rattle.simulator.specs.Kinds.{numbering_of}
+use Rattle.simulator.specs.Stages.{runs}
 use Rattle.simulator.specs.declared.any_kind.AnyKind.{AnyKind}
 use Rattle.simulator.specs.declared.any_kind.AnyKind.TheVariants.{Serial, Time}
 use Rattle.simulator.specs.declared.device.Make.TheVariants.{Faithful}
@@ -19,10 +22,15 @@ use Rattle.cases.specs.Run.{Run, begun, print_from}
 abbrev pub text : List (List ℕ) → List ℕ
 text lines = flat_map (λ line. line ++ (10 ∷ [])) lines
 
--- a time kind with a lease of one millisecond
+-- the time kind of a box, of box 127 where the number is greater, with a lease of one millisecond
 abbrev pub box_with : ℕ → ℕ → TimeKind
 box_with box byte =
-    record { lease = record { 0 = 1 }; box_number = box; correction = record { 0 = byte } }
+    record {
+      lease = record { milliseconds = 1; in_range = (lit≤ tt, lit≤ tt) };
+      box_number = min box 127;
+      correction = record { 0 = byte };
+      in_range = (zero-le, min-le_right box 127);
+    }
 
 -- the number that a request is refused with; 0 where it is not
 abbrev pub refusal_of : Decision → ℕ
@@ -67,7 +75,7 @@ abbrev pub almost_full : Meaning
 almost_full = record { reading = one_record; kept = one_record; supply = 100; beyond = [] }
 
 abbrev pub serial : AnyKind
-serial = Serial (record { size = 3 })
+serial = Serial (record { size = 3; in_range = (lit≤ tt, lit≤ tt) })
 
 -- a server that wakes on it
 abbrev pub near_the_top : Run

@@ -7,10 +7,11 @@ use Rattle.record.specs.declared.numbers.Identifier.{Identifier}
 use Rattle.record.specs.declared.numbers.Rank.{Rank}
 use Rattle.record.specs.declared.numbers.Reading.{Reading}
 use Rattle.disk.specs.Meaning.{Meaning}
+use Rattle.kind.specs.Meaning.{Numbering, LawfulKind}
 use Rattle.ring.specs.Ring.{Step}
 use Rattle.server.specs.History.{Event, request, latest, end_in, next, rank_of, floor_of, or_zero, after_last, labels, wanted, asked, writes, stood, block_to, standing, top_record, one_if_none, reserved_before}
-use Rattle.server.specs.Promise.{FloorsZero, LawfulKind, Rising, Ground, goes_dark, went_dark, above_top, run_short, RequestLaws}
-use Rattle.server.specs.Rules.{Numbering, next_in, with_next}
+use Rattle.server.specs.Promise.{FloorsZero, Rising, Ground, goes_dark, went_dark, above_top, run_short, RequestLaws}
+use Rattle.server.specs.Rules.{next_in, with_next}
 use Rattle.server.specs.declared.state.Up.{Up}
 use Rattle.history.proofs.Invariant.{IsUp}
 use Rattle.history.proofs.Quiet.{asked_lit, still_lit, none-stood, numbers_last, touches_none, writes-none, within_loss}

@@ -1,11 +1,12 @@
 -- What holds of a server between calls: while it is up, and while it is down since the disk went dark.
 use Rattle.std.proofs.Common.{◌≡◌, ℕ, ◌+◌, ◌*◌, ◌<◌, ◌≤◌, min, max, true, false, cond, ◌&&◌, eqb, List, length, Some, None}
 use Rattle.disk.specs.Meaning.{Meaning, Cut}
+use Rattle.kind.specs.Meaning.{Numbering}
 use Rattle.ring.specs.Left.{Left}
 use Rattle.ring.specs.Ring.{top, Agrees}
 use Rattle.server.specs.History.{Event, latest, end_in, next, floor_since, after_last, cuts_since, loss, dark, writes, standing, top_record}
 use Rattle.server.specs.Promise.{FloorsZero}
-use Rattle.server.specs.Rules.{Numbering, format, next_in}
+use Rattle.server.specs.Rules.{format, next_in}
 use Rattle.server.specs.declared.state.State.{State}
 use Rattle.server.specs.declared.state.State.TheVariants.{Up as Awake, Down}
 use Rattle.server.specs.declared.state.Up.{Up}

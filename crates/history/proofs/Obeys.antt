@@ -7,6 +7,7 @@ use Rattle.record.specs.declared.numbers.Reading.{Reading as ClockReading}
 use Rattle.record.specs.declared.numbers.Sequence.{Sequence}
 use Rattle.record.specs.declared.sector.Format.{Format}
 use Rattle.disk.specs.Meaning.{Meaning}
+use Rattle.kind.specs.Meaning.{Numbering, LawfulKind}
 use Rattle.ring.specs.Left.{WithoutRecords}
 use Rattle.ring.specs.Operations.{outcome}
 use Rattle.ring.specs.Ring.{plan, known, known_end, Step}
@@ -20,8 +21,8 @@ use Rattle.ring.specs.declared.token.Reserved.{Reserved}
 use Rattle.ring.proofs.Leaves.{operations_counted}
 use Rattle.ring.proofs.Starts.{known_end_is}
 use Rattle.server.specs.History.{Event, request, cut, latest, end_in, next, rank_of, floor_of, or_zero, is_lawful, floor_since, dark, reserves, needs_block, numbers_suffice, wanted, asked, writes, stood, too_little, block_to, standing, top_record}
-use Rattle.server.specs.Promise.{LawfulKind, Ground, went_dark, above_top, run_short, RequestLaws, CutLaws, Obeys, Reached, begun, gave, was_cut, EveryHistoryObeys}
-use Rattle.server.specs.Rules.{Numbering, format, block_end, next_in, refuse, hand, reserve, by_rank, by_floor, stopped, Answered, Reserving, Does, Gave, WasCut}
+use Rattle.server.specs.Promise.{Ground, went_dark, above_top, run_short, RequestLaws, CutLaws, Obeys, Reached, begun, gave, was_cut, EveryHistoryObeys}
+use Rattle.server.specs.Rules.{format, block_end, next_in, refuse, hand, reserve, by_rank, by_floor, stopped, Answered, Reserving, Does, Gave, WasCut}
 use Rattle.server.specs.declared.fault.ServerFault.{ServerFault}
 use Rattle.server.specs.declared.fault.ServerFault.TheVariants.{Down as WasDown, Series as NoSeries, Reading, AboveTop, Ring as OfRing}
 use Rattle.server.specs.declared.state.State.{State}

@@ -5,11 +5,12 @@ use Rattle.record.specs.declared.numbers.Identifier.{Identifier}
 use Rattle.record.specs.declared.numbers.Rank.{Rank}
 use Rattle.record.specs.declared.numbers.Reading.{Reading}
 use Rattle.disk.specs.Meaning.{Meaning}
+use Rattle.kind.specs.Meaning.{Numbering}
 use Rattle.ring.specs.Operations.{Op, Went, performed, writes_in}
 use Rattle.ring.specs.Ring.{top, Step}
 use Rattle.server.specs.History.{Event, request, latest, end_in, dark, wanted, asked, writes, stood, too_little, block_to, top_record}
 use Rattle.server.specs.Promise.{WithinLoss, Ground, RequestLaws}
-use Rattle.server.specs.Rules.{Numbering, format}
+use Rattle.server.specs.Rules.{format}
 use Rattle.server.specs.declared.fault.ServerFault.{ServerFault}
 use Rattle.server.specs.declared.fault.ServerFault.TheVariants.{AboveTop}
 use Rattle.server.specs.declared.state.Up.{Up}

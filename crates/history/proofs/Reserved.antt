@@ -6,6 +6,7 @@ use Rattle.record.specs.declared.numbers.Identifier.{Identifier}
 use Rattle.record.specs.declared.numbers.Reading.{Reading}
 use Rattle.record.specs.declared.sector.Format.{Format}
 use Rattle.disk.specs.Meaning.{Meaning}
+use Rattle.kind.specs.Meaning.{Numbering, LawfulKind}
 use Rattle.ring.specs.Left.{Recovers, LawfulReservation, ReservedUpTo, Follows, stops, carries}
 use Rattle.ring.specs.Operations.{Went, performed, writes_in}
 use Rattle.ring.specs.Ring.{plan, Step, Agrees}
@@ -13,8 +14,8 @@ use Rattle.ring.specs.declared.ring.Ring.{Ring}
 use Rattle.ring.proofs.Leaves.{cut_within, reserved_whole, seven_carries, tops_counted}
 use Rattle.ring.proofs.Starts.{agrees_recovers}
 use Rattle.server.specs.History.{Event, request, latest, end_in, next, rank_of, floor_of, floor_since, dark, wanted, asked, writes, stood, left_standing, too_little, block_to, standing, top_record, one_if_none, reserved_before}
-use Rattle.server.specs.Promise.{LawfulKind, Rising, Ground, goes_dark, went_dark, above_top, run_short, RequestLaws}
-use Rattle.server.specs.Rules.{Numbering, format, with_next}
+use Rattle.server.specs.Promise.{Rising, Ground, goes_dark, went_dark, above_top, run_short, RequestLaws}
+use Rattle.server.specs.Rules.{format, with_next}
 use Rattle.server.specs.declared.fault.ServerFault.{ServerFault}
 use Rattle.server.specs.declared.state.Up.{Up}
 use Rattle.history.proofs.Given.{nexts_given, rises, rank_is_next}

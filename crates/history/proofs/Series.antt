@@ -8,9 +8,9 @@ use Rattle.record.specs.declared.numbers.Rank.{Rank}
 use Rattle.record.specs.declared.numbers.Reading.{Reading}
 use Rattle.record.specs.declared.numbers.Sequence.{Sequence}
 use Rattle.disk.specs.Meaning.{Meaning}
+use Rattle.kind.specs.Meaning.{Numbering}
 use Rattle.server.specs.History.{Event, request, cut, latest, end_in, next, rank_of, floor_since, after_last, cuts_since, loss, labels, asked, block_to, stood, standing}
 use Rattle.server.specs.Promise.{FloorsZero}
-use Rattle.server.specs.Rules.{Numbering}
 use Rattle.server.specs.declared.fault.ServerFault.{ServerFault}
 
 -- an identifier that was given has a rank below the one that would follow the last

@@ -5,9 +5,10 @@ use Rattle.record.specs.declared.numbers.Identifier.{Identifier}
 use Rattle.record.specs.declared.numbers.Reading.{Reading}
 use Rattle.record.specs.declared.numbers.Sequence.{Sequence}
 use Rattle.disk.specs.Meaning.{Meaning}
+use Rattle.kind.specs.Meaning.{Numbering, LawfulKind}
 use Rattle.server.specs.History.{Event, request, cut}
-use Rattle.server.specs.Promise.{LawfulKind, Obeys, Reached, begun, gave, was_cut}
-use Rattle.server.specs.Rules.{Numbering, Gave, WasCut, woken}
+use Rattle.server.specs.Promise.{Obeys, Reached, begun, gave, was_cut}
+use Rattle.server.specs.Rules.{Gave, WasCut, woken}
 use Rattle.server.specs.declared.fault.ServerFault.{ServerFault}
 use Rattle.server.specs.declared.state.State.{State}
 use Rattle.history.specs.Made.{call_of, answer_of, calls_of, answers_of, Made, Served, BrokeOff, Ran, RanInPart}

@@ -7,14 +7,15 @@ use Rattle.record.specs.declared.numbers.Rank.{Rank}
 use Rattle.record.specs.declared.numbers.Sequence.{Sequence}
 use Rattle.record.specs.declared.sector.Format.{Format}
 use Rattle.disk.specs.Meaning.{Meaning}
+use Rattle.kind.specs.Meaning.{Numbering, LawfulKind}
 use Rattle.ring.specs.Left.{Recovers, WithoutRecords, end_of}
 use Rattle.ring.specs.Ring.{top, known, known_end, recovered}
 use Rattle.ring.specs.declared.ring.Ring.{Ring}
 use Rattle.ring.proofs.Cuts.{cut_at_rest}
 use Rattle.ring.proofs.Starts.{blank_recovers, blank_top, blank_end, recovers_answer, recovers_agrees, agrees_recovers, known_end_is}
 use Rattle.server.specs.History.{Event, request, cut, latest, end_in, dark, wanted, asked, writes, stood, too_little, block_to, standing}
-use Rattle.server.specs.Promise.{LawfulKind, CutLaws}
-use Rattle.server.specs.Rules.{Numbering, format, woken, awake, top_told, next_in, WasCut}
+use Rattle.server.specs.Promise.{CutLaws}
+use Rattle.server.specs.Rules.{format, woken, awake, top_told, next_in, WasCut}
 use Rattle.server.specs.declared.fault.ServerFault.{ServerFault}
 use Rattle.server.specs.declared.state.State.{State}
 use Rattle.server.specs.declared.state.State.TheVariants.{Up as Awake}

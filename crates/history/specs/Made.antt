@@ -1,10 +1,10 @@
 -- The calls and answers of a history, and what making a list of calls promises.
 use Rattle.std.specs.Prelude.{◌≡◌, ℕ, List, [], ◌∷◌, ◌++◌, take}
 use Rattle.disk.specs.Meaning.{Meaning}
+use Rattle.kind.specs.Meaning.{Numbering}
 use Rattle.ring.specs.Left.{WithoutRecords}
 use Rattle.server.specs.History.{Event, request, cut}
 use Rattle.server.specs.Promise.{Obeys, Reached}
-use Rattle.server.specs.Rules.{Numbering}
 use Rattle.server.specs.declared.state.State.{State}
 use Rattle.history.specs.declared.calls.Answer.{Answer}
 use Rattle.history.specs.declared.calls.Answer.TheVariants.{Give as Gave, Cut as WasCut}

@@ -3,7 +3,6 @@ ghost use Rattle.std.specs.Prelude.{◌≡◌, List, MatchResult};
 ghost use Rattle.disk.specs.Meaning.{Meaning};
 ghost use Rattle.server.specs.History.{Event};
 ghost use Rattle.server.specs.Promise.{Reached, EveryHistoryObeys};
-ghost use Rattle.server.specs.Rules.{numbering};
 ghost use Rattle.history.specs.Made.{Made, Served, BrokeOff, Ran, RanInPart};
 
 use disk::Disk;
@@ -29,7 +28,7 @@ pub enum Answer {
 // Makes one call: it extends a history by what the server's own call promises, and every such history obeys the laws.
 pub fn make<D: Disk, K: Kind>(server: &mut Server<D, K>, call: Call) -> Answer
     ensures kind { server.new.kind ≡ server.old.kind }
-    ensures extends { (start : Meaning) (past : List Event) → Reached (numbering K.tag K.top K.block K.floor K.identifier server.old.kind) start past server.old.state (D.meaning server.old.disk) → Made (numbering K.tag K.top K.block K.floor K.identifier server.old.kind) start past call result server.new.state (D.meaning server.new.disk) }
+    ensures extends { (start : Meaning) (past : List Event) → Reached (K.numbering server.old.kind) start past server.old.state (D.meaning server.old.disk) → Made (K.numbering server.old.kind) start past call result server.new.state (D.meaning server.new.disk) }
     ensures promise { EveryHistoryObeys }
 {
     match call {
@@ -45,7 +44,7 @@ pub fn serve<D: Disk, K: Kind>(
     calls: &[Call],
 ) -> Result<Vec<Answer>, AllocError>
     ensures kind { server.new.kind ≡ server.old.kind }
-    ensures promise { (start : Meaning) (past : List Event) → Reached (numbering K.tag K.top K.block K.floor K.identifier server.old.kind) start past server.old.state (D.meaning server.old.disk) → MatchResult result (λ answers. Served (numbering K.tag K.top K.block K.floor K.identifier server.old.kind) start past calls.now answers.items server.new.state (D.meaning server.new.disk)) (λ _. BrokeOff (numbering K.tag K.top K.block K.floor K.identifier server.old.kind) start past calls.now server.new.state (D.meaning server.new.disk)) }
+    ensures promise { (start : Meaning) (past : List Event) → Reached (K.numbering server.old.kind) start past server.old.state (D.meaning server.old.disk) → MatchResult result (λ answers. Served (K.numbering server.old.kind) start past calls.now answers.items server.new.state (D.meaning server.new.disk)) (λ _. BrokeOff (K.numbering server.old.kind) start past calls.now server.new.state (D.meaning server.new.disk)) }
 {
     let mut answers = Vec::new(heap);
     for call in calls {
@@ -63,7 +62,7 @@ pub struct Outcome<D, K> {
 // Puts a server together on a disk and makes the calls in their order.
 pub fn run<D: Disk, K: Kind>(heap: Global, disk: D, kind: K, calls: &[Call]) -> Outcome<D, K>
     ensures kind { result.server.kind ≡ kind }
-    ensures promise { MatchResult result.answers (λ answers. Ran (numbering K.tag K.top K.block K.floor K.identifier kind) (D.meaning disk) calls.now answers.items result.server.state (D.meaning result.server.disk)) (λ _. RanInPart (numbering K.tag K.top K.block K.floor K.identifier kind) (D.meaning disk) calls.now result.server.state (D.meaning result.server.disk)) }
+    ensures promise { MatchResult result.answers (λ answers. Ran (K.numbering kind) (D.meaning disk) calls.now answers.items result.server.state (D.meaning result.server.disk)) (λ _. RanInPart (K.numbering kind) (D.meaning disk) calls.now result.server.state (D.meaning result.server.disk)) }
 {
     let mut server = Server::new(disk, kind);
     let answers = serve(heap, &mut server, calls);

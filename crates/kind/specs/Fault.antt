@@ -1,5 +1,5 @@
 -- What is outside its range, and how it is denied.
-use Rattle.std.specs.Prelude.{ℕ, min, max, Bool, cond, Err, Result}
+use Rattle.std.specs.Prelude.{ℕ, Bool, cond, Err, Result}
 use Rattle.kind.specs.declared.fault.SettingFault.{SettingFault}
 use Rattle.kind.specs.declared.fault.SettingFault.TheVariants.{BlockSize, Lease, Box, Correction, Milliseconds, Worker, Step, Identifier}
 
@@ -17,7 +17,3 @@ number_of Identifier = 4
 -- the answer if the test holds, and the fault otherwise
 abbrev pub provided : {X : Type 0} → Bool → SettingFault → Result X SettingFault → Result X SettingFault
 provided test fault answer = cond test answer (Err fault)
-
--- the number of low to high that lies nearest: a setting in its range is itself
-abbrev pub nearest : ℕ → ℕ → ℕ → ℕ
-nearest low high n = max low (min n high)

@@ -1,5 +1,5 @@
 -- The time kind.
-use Rattle.std.specs.Prelude.{ℕ, ◌+◌, ◌-◌, ◌*◌, ◌/◌, ◌%◌, ◌^◌, cond, ◌&&◌, ℤ, pos, negsuc, ◌+ℤ◌, ◌*ℤ◌, neg_ℤ, Some, None, Ok, Option, Result, nat_le, nat_lt}
+use Rattle.std.specs.Prelude.{ℕ, ◌+◌, ◌-◌, ◌*◌, ◌/◌, ◌%◌, ◌^◌, cond, ℤ, pos, negsuc, ◌+ℤ◌, ◌*ℤ◌, neg_ℤ, Some, None, Ok, Option, Result, nat_le, nat_lt}
 use Rattle.std.specs.Option.{option_map}
 use Rattle.record.specs.declared.numbers.Rank.{Rank}
 use Rattle.record.specs.declared.numbers.Reading.{Reading}
@@ -9,12 +9,14 @@ use Rattle.kind.specs.declared.fault.SettingFault.TheVariants as fault
 use Rattle.kind.specs.declared.time.Correction.{Correction}
 use Rattle.kind.specs.declared.time.Lease.{Lease}
 use Rattle.kind.specs.declared.time.TimeKind.{TimeKind}
-use Rattle.kind.specs.Fault.{nearest, provided}
+use Rattle.kind.specs.Fault.{provided}
+use Rattle.kind.specs.Meaning.{Numbering}
+use Rattle.kind.specs.Range.{made_within}
 use Rattle.kind.specs.Snowflake.{packed}
 
 -- a lease is 1 to 60,000 milliseconds
 abbrev pub lease_of : ℕ → Result Lease SettingFault
-lease_of ms = provided (nat_le 1 ms && nat_le ms 60000) fault.Lease (Ok (record { 0 = ms }))
+lease_of ms = made_within 1 60000 ms fault.Lease (λ fits. record { milliseconds = ms; in_range = fits })
 
 -- a correction is a byte
 abbrev pub correction_of : ℕ → Result Correction SettingFault
@@ -23,7 +25,7 @@ correction_of byte = provided (nat_le byte 255) fault.Correction (Ok (record { 0
 -- a box has a number from 0 to 127
 abbrev pub time_kind_of : Lease → ℕ → Correction → Result TimeKind SettingFault
 time_kind_of lease number correction =
-    provided (nat_le number 127) fault.Box (Ok (record { lease = lease; box_number = number; correction = correction }))
+    made_within 0 127 number fault.Box (λ fits. record { lease = lease; box_number = number; correction = correction; in_range = fits })
 
 -- the byte as a two's complement number: 0 to 127 as they are, 128 to 255 less 256
 abbrev pub seconds_of : Correction → ℤ
@@ -48,7 +50,7 @@ time_top _ = record { 0 = 2 ^ 53 - 1 }
 
 -- a reservation takes the ranks of a lease
 abbrev pub time_block : TimeKind → ℕ
-time_block kind = 4096 * nearest 1 60000 kind.lease.0
+time_block kind = 4096 * kind.lease.milliseconds
 
 -- a lawful reading allows the first step of its millisecond
 abbrev pub time_floor : TimeKind → Reading → Option Rank
@@ -56,9 +58,20 @@ time_floor kind raw = option_map (λ reading. record { 0 = 4096 * reading.0 }) (
 
 -- a box has eight workers, one for each series
 abbrev pub worker_of : TimeKind → ℕ → ℕ
-worker_of kind series = 8 * nearest 0 127 kind.box_number + series
+worker_of kind series = 8 * kind.box_number + series
 
 -- the rank's millisecond and step, with the worker between them
 abbrev pub time_identifier : TimeKind → ℕ → Rank → Identifier
 time_identifier kind series rank =
     packed (record { milliseconds = rank.0 / 4096; worker = worker_of kind series; step = rank.0 % 4096 })
+
+-- what a time kind tells
+abbrev pub time_numbering : TimeKind → Numbering
+time_numbering kind =
+    record {
+      tag = time_tag kind;
+      top = time_top kind;
+      block = time_block kind;
+      floor = time_floor kind;
+      identifier = time_identifier kind;
+    }

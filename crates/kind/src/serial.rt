@@ -1,7 +1,6 @@
 // Serial identifiers: 1, 2, 3 and so on, whatever the clock says.
 ghost use Rattle.std.specs.Prelude.{◌≡◌};
-ghost use Rattle.kind.specs.Serial.{serial_block, serial_floor, serial_identifier, serial_kind_of, serial_tag, serial_top};
-ghost use Rattle.std.proofs.Common.{rules};
+ghost use Rattle.kind.specs.Range.{IsWithin};
 
 use crate::fault::SettingFault;
 use crate::meaning::Kind;
@@ -10,14 +9,16 @@ use record::{Identifier, Rank, Reading};
 // The largest block.
 const LARGEST: u64 = 10_000;
 
-// The serial kind. The size of its blocks is tested when the kind is made, and brought into its range again where it is
-// used, so that the laws hold of every value of this type.
-#[derive(Clone, Copy)]
+// The serial kind, with the size of its blocks.
+#[derive(Clone, Copy, PartialEq, Eq, Debug)]
 pub struct SerialKind {
     size: u64,
+    ghost in_range: { IsWithin 1 10000 size },
 }
 
 impl SerialKind {
+    ghost use Rattle.kind.specs.Serial.{serial_kind_of};
+
     // The kind with blocks of 1 to 10,000 ranks; any other size is denied.
     pub fn new(size: u64) -> Result<SerialKind, SettingFault>
         ensures { result ≡ serial_kind_of size }
@@ -30,25 +31,12 @@ impl SerialKind {
 }
 
 impl Kind for SerialKind {
-    ghost tag = { serial_tag };
+    ghost use Rattle.kind.specs.Serial.{serial_numbering};
+    ghost use Rattle.std.proofs.Common.{rules};
 
-    ghost top = { serial_top };
+    ghost numbering = { serial_numbering };
 
-    ghost block = { serial_block };
-
-    ghost floor = { serial_floor };
-
-    ghost identifier = { serial_identifier };
-
-    ghost tag_fits = { Prim.search rules };
-
-    ghost top_fits = { Prim.search rules };
-
-    ghost block_least = { Prim.search rules };
-
-    ghost block_most = { Prim.search rules };
-
-    ghost rising = { Prim.search rules };
+    ghost lawful = { Prim.search rules };
 
     fn tag(&self) -> u8 {
         1
@@ -59,7 +47,7 @@ impl Kind for SerialKind {
     }
 
     fn block_size(&self) -> u64 {
-        self.size.clamp(1, LARGEST)
+        self.size
     }
 
     fn floor(&self, _reading: Reading) -> Option<Rank> {
@@ -67,7 +55,7 @@ impl Kind for SerialKind {
     }
 
     fn identifier(&self, series: u8, rank: Rank) -> Option<Identifier> {
-        if series > 7 || rank.0 > self.top().0 {
+        if series > 7 || rank > self.top() {
             return None;
         }
         Some(Identifier(rank.0 + 1))

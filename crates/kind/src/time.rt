@@ -1,7 +1,6 @@
 // Time-sequenced identifiers: a rank is a millisecond and a step within it.
 ghost use Rattle.std.specs.Prelude.{◌≡◌};
-ghost use Rattle.kind.specs.Time.{correction_of, corrected_by, lease_of, seconds_of, time_block, time_floor, time_identifier, time_kind_of, time_tag, time_top};
-ghost use Rattle.std.proofs.Common.{rules};
+ghost use Rattle.kind.specs.Range.{IsWithin};
 
 use crate::fault::SettingFault;
 use crate::meaning::Kind;
@@ -18,10 +17,15 @@ const LONGEST: u64 = 60_000;
 const LAST_BOX: u64 = 127;
 
 // The time that the ranks of one reservation last, in milliseconds.
-#[derive(Clone, Copy)]
-pub struct Lease(u64);
+#[derive(Clone, Copy, PartialEq, Eq, Debug)]
+pub struct Lease {
+    milliseconds: u64,
+    ghost in_range: { IsWithin 1 60000 milliseconds },
+}
 
 impl Lease {
+    ghost use Rattle.kind.specs.Time.{lease_of};
+
     // A lease of 1 to 60,000 milliseconds; any other is denied.
     pub fn new(milliseconds: u64) -> Result<Lease, SettingFault>
         ensures { result ≡ lease_of milliseconds }
@@ -29,23 +33,24 @@ impl Lease {
         if milliseconds < 1 || milliseconds > LONGEST {
             return Err(SettingFault::Lease);
         }
-        Ok(Lease(milliseconds))
+        Ok(Lease { milliseconds })
     }
 }
 
 // By how many seconds the clock is to be set right: a byte that holds a two's complement number.
-#[derive(Clone, Copy)]
+#[derive(Clone, Copy, PartialEq, Eq, Debug)]
 pub struct Correction(pub u8);
 
 impl Correction {
+    ghost use Rattle.kind.specs.Time.{correction_of, corrected_by, seconds_of};
+
     // The correction in a byte of 0 to 255; any other number is denied.
     pub fn new(byte: u64) -> Result<Correction, SettingFault>
         ensures { result ≡ correction_of byte }
     {
-        if byte > 255 {
-            return Err(SettingFault::Correction);
-        }
-        Ok(Correction(byte as u8))
+        u8::try_from(byte)
+            .map(Correction)
+            .map_err(|_| SettingFault::Correction)
     }
 
     // The number in the byte, from -128 to 127.
@@ -60,23 +65,22 @@ impl Correction {
         ensures { result ≡ corrected_by self raw }
     {
         let milliseconds = raw.0.checked_add_signed(1000 * self.seconds())?;
-        if milliseconds >= 1 << 41 {
-            return None;
-        }
-        Some(Reading(milliseconds))
+        (milliseconds < 1 << 41).then_some(Reading(milliseconds))
     }
 }
 
-// The time kind of one box. A setting is tested when the kind is made, and brought into its range again where it is
-// used, so that the laws hold of every value of this type.
-#[derive(Clone, Copy)]
+// The time kind of one box.
+#[derive(Clone, Copy, PartialEq, Eq, Debug)]
 pub struct TimeKind {
     lease: Lease,
     box_number: u64,
     correction: Correction,
+    ghost in_range: { IsWithin 0 127 box_number },
 }
 
 impl TimeKind {
+    ghost use Rattle.kind.specs.Time.{time_kind_of};
+
     // The kind of a box with a number of 0 to 127; any other is denied.
     pub fn new(
         lease: Lease,
@@ -97,25 +101,12 @@ impl TimeKind {
 }
 
 impl Kind for TimeKind {
-    ghost tag = { time_tag };
+    ghost use Rattle.kind.specs.Time.{time_numbering};
+    ghost use Rattle.std.proofs.Common.{rules};
 
-    ghost top = { time_top };
+    ghost numbering = { time_numbering };
 
-    ghost block = { time_block };
-
-    ghost floor = { time_floor };
-
-    ghost identifier = { time_identifier };
-
-    ghost tag_fits = { Prim.search rules };
-
-    ghost top_fits = { Prim.search rules };
-
-    ghost block_least = { Prim.search rules };
-
-    ghost block_most = { Prim.search rules };
-
-    ghost rising = { Prim.search rules };
+    ghost lawful = { Prim.search rules };
 
     fn tag(&self) -> u8 {
         2
@@ -126,7 +117,7 @@ impl Kind for TimeKind {
     }
 
     fn block_size(&self) -> u64 {
-        STEPS * self.lease.0.clamp(1, LONGEST)
+        STEPS * self.lease.milliseconds
     }
 
     fn floor(&self, reading: Reading) -> Option<Rank> {
@@ -135,12 +126,12 @@ impl Kind for TimeKind {
     }
 
     fn identifier(&self, series: u8, rank: Rank) -> Option<Identifier> {
-        if series > 7 || rank.0 > self.top().0 {
+        if series > 7 || rank > self.top() {
             return None;
         }
         let parts = Parts {
             milliseconds: rank.0 / STEPS,
-            worker: 8 * self.box_number.min(LAST_BOX) + u64::from(series),
+            worker: 8 * self.box_number + u64::from(series),
             step: rank.0 % STEPS,
         };
         pack(parts).ok()

@@ -6,7 +6,7 @@ use history::{Answer, Call, make};
 use kind::{Kind, SerialKind};
 use record::{Identifier, Reading, Sequence};
 use server::{Server, ServerFault};
-use std::io;
+use std::{fmt, io};
 
 const SECTORS: usize = 10;
 
@@ -22,30 +22,38 @@ fn give(series: u8) -> Call {
     }
 }
 
-fn print_call(rt: &HostRuntime, call: Call) -> io::Result<()> {
-    match call {
-        Call::Give { series, reading: _ } => print!(rt; "request of series {series}     | "),
-        Call::Cut { tear, supply } => print!(rt; "cut, tear {tear:>2}, supply {supply:>2} | "),
-    }
+// A call and what it answered.
+#[derive(Drop)]
+struct Told {
+    call: Call,
+    answer: Answer,
 }
 
-fn print_denial(rt: &HostRuntime, fault: ServerFault) -> io::Result<()> {
-    let number = fault.number();
-    match fault {
-        ServerFault::Ring(_) => {
-            let sector = fault.sector();
-            println!(rt; "denied with {number}, sector {sector}")
+impl fmt::Display for Told {
+    fn fmt<W: fmt::Write>(&self, f: &mut fmt::Formatter<W>) -> fmt::Result {
+        match self.call {
+            Call::Give { series, reading: _ } => write!(f, "request of series {series}     | ")?,
+            Call::Cut { tear, supply } => write!(f, "cut, tear {tear:>2}, supply {supply:>2} | ")?,
         }
-        _ => println!(rt; "denied with {number}"),
+        match self.answer {
+            Answer::Give(Ok(Identifier(number))) => write!(f, "identifier {number}"),
+            Answer::Cut(Ok(Sequence(top))) => write!(f, "top record {top}"),
+            Answer::Give(Err(fault)) | Answer::Cut(Err(fault)) => write!(f, "{}", Denied(fault)),
+        }
     }
 }
 
-fn print_answer(rt: &HostRuntime, answer: Answer) -> io::Result<()> {
-    match answer {
-        Answer::Give(Ok(Identifier(number))) => println!(rt; "identifier {number}"),
-        Answer::Cut(Ok(Sequence(top))) => println!(rt; "top record {top}"),
-        Answer::Give(Err(fault)) => print_denial(rt, fault),
-        Answer::Cut(Err(fault)) => print_denial(rt, fault),
+// A denial, with the sector where the ring names one.
+#[derive(Drop)]
+struct Denied(ServerFault);
+
+impl fmt::Display for Denied {
+    fn fmt<W: fmt::Write>(&self, f: &mut fmt::Formatter<W>) -> fmt::Result {
+        write!(f, "denied with {}", self.0.number())?;
+        if let ServerFault::Ring(_) = self.0 {
+            write!(f, ", sector {}", self.0.sector())?;
+        }
+        Ok(())
     }
 }
 
@@ -57,8 +65,11 @@ fn tell<D: Disk, K: Kind>(
 ) -> io::Result<()> {
     for call in calls {
         let answer = make(server, *call);
-        print_call(rt, *call)?;
-        print_answer(rt, answer)?;
+        let told = Told {
+            call: *call,
+            answer,
+        };
+        println!(rt; "{told}")?;
     }
     Ok(())
 }

@@ -5,10 +5,11 @@ use Rattle.record.specs.declared.numbers.Rank.{Rank}
 use Rattle.record.specs.declared.numbers.Reading.{Reading}
 use Rattle.record.specs.declared.numbers.Sequence.{Sequence}
 use Rattle.disk.specs.Meaning.{Meaning}
+use Rattle.kind.specs.Meaning.{Numbering}
 use Rattle.ring.specs.Left.{end_of}
 use Rattle.ring.specs.Operations.{performed, writes_in}
 use Rattle.ring.specs.Ring.{top, plan, Step}
-use Rattle.server.specs.Rules.{Numbering, format, block_end}
+use Rattle.server.specs.Rules.{format, block_end}
 use Rattle.server.specs.declared.fault.ServerFault.{ServerFault}
 
 -- one call: a request of a series at a clock's reading, or a power cut with its tear and its new supply; with its answer and

@@ -6,23 +6,15 @@ use Rattle.record.specs.declared.numbers.Rank.{Rank}
 use Rattle.record.specs.declared.numbers.Reading.{Reading}
 use Rattle.record.specs.declared.numbers.Sequence.{Sequence}
 use Rattle.disk.specs.Meaning.{Meaning, Cut}
+use Rattle.kind.specs.Meaning.{Numbering, LawfulKind}
 use Rattle.ring.specs.Left.{WithoutRecords}
 use Rattle.ring.specs.Operations.{Went, performed}
 use Rattle.ring.specs.Ring.{top}
 use Rattle.server.specs.History.{Event, request, cut, latest, end_in, rank_of, floor_of, floor_since, after_last, cuts_since, loss, labels, top_record, dark, asked, writes, reserved_before}
-use Rattle.server.specs.Rules.{Numbering, format, woken, Gave, WasCut}
+use Rattle.server.specs.Rules.{format, woken, Gave, WasCut}
 use Rattle.server.specs.declared.fault.ServerFault.{ServerFault}
 use Rattle.server.specs.declared.fault.ServerFault.TheVariants.{AboveTop}
 use Rattle.server.specs.declared.state.State.{State}
-
--- what is asked of a kind: the laws of its trait
-pub record LawfulKind (k : Numbering) : Type 0 where
-  pub tags : k.tag < 2 ^ 8
-  pub tops : k.top.0 < 2 ^ 53
-  pub least : 1 ≤ k.block
-  pub most : k.block ≤ 2 ^ 28
-  pub rising :
-      (s : ℕ) (a b : Rank) → s < 8 → a.0 < b.0 → b.0 ≤ k.top.0 → (k.identifier s a).0 < (k.identifier s b).0
 
 -- a kind whose every reading has the floor 0, as the serial kind's
 abbrev pub FloorsZero : Numbering → Type 0

@@ -7,6 +7,7 @@ use Rattle.record.specs.declared.numbers.Reading.{Reading as ClockReading}
 use Rattle.record.specs.declared.numbers.Sequence.{Sequence}
 use Rattle.record.specs.declared.sector.Format.{Format}
 use Rattle.disk.specs.Meaning.{Meaning, Cut, count}
+use Rattle.kind.specs.Meaning.{Numbering}
 use Rattle.ring.specs.Ring.{known_end, recovered, Agrees}
 use Rattle.ring.specs.Search.{Ended, refusal}
 use Rattle.ring.specs.declared.fault.RingFault.{RingFault}
@@ -18,19 +19,6 @@ use Rattle.server.specs.declared.fault.ServerFault.TheVariants.{Down as WasDown,
 use Rattle.server.specs.declared.state.State.{State}
 use Rattle.server.specs.declared.state.State.TheVariants.{Up as Awake, Down}
 use Rattle.server.specs.declared.state.Up.{Up}
-
--- what a kind of identifier tells
-pub record Numbering : Type 0 where
-  pub tag : ℕ
-  pub top : Rank
-  pub block : ℕ
-  pub floor : ClockReading → Option Rank
-  pub identifier : ℕ → Rank → Identifier
-
--- the same, by the members of a trait
-abbrev pub numbering : {K : Type 0} → (K → ℕ) → (K → Rank) → (K → ℕ) → (K → ClockReading → Option Rank) → (K → ℕ → Rank → Identifier) → K → Numbering
-numbering tag top block floor identifier kind =
-    record { tag = tag kind; top = top kind; block = block kind; floor = floor kind; identifier = identifier kind }
 
 -- the format of a kind's records on a disk
 abbrev pub format : Numbering → Meaning → Format

@@ -1,6 +1,6 @@
 // The server over any disk and any kind.
 ghost use Rattle.std.specs.Prelude.{◌≡◌, ◌≤◌};
-ghost use Rattle.server.specs.Rules.{numbering, block_end, woken, Gave, Extended, WasCut};
+ghost use Rattle.server.specs.Rules.{block_end, woken, Gave, Extended, WasCut};
 
 use crate::fault::ServerFault;
 use crate::state::{State, Up, stop, wake};
@@ -21,7 +21,7 @@ impl<D: Disk, K: Kind> Server<D, K> {
     // Puts a server together: reads all sectors of the disk.
     pub fn new(disk: D, kind: K) -> Server<D, K>
         ensures parts { (result.disk ≡ disk) × (result.kind ≡ kind) }
-        ensures woken { result.state ≡ woken (numbering K.tag K.top K.block K.floor K.identifier kind) (D.meaning disk) }
+        ensures woken { result.state ≡ woken (K.numbering kind) (D.meaning disk) }
     {
         let state = wake(Ring::recover(&disk, kind.tag(), kind.top()));
         Server { disk, kind, state }
@@ -29,8 +29,8 @@ impl<D: Disk, K: Kind> Server<D, K> {
 
     // The end of a block from a rank on: the smaller of rank + block size and top + 1.
     fn block_end(&self, rank: Rank) -> Rank
-        requires { rank.0 ≤ (K.top self.now.kind).0 }
-        ensures { result ≡ block_end (numbering K.tag K.top K.block K.floor K.identifier self.now.kind) rank }
+        requires { rank.0 ≤ (K.numbering self.now.kind).top.0 }
+        ensures { result ≡ block_end (K.numbering self.now.kind) rank }
     {
         let end = rank.0 + self.kind.block_size();
         Rank(end.min(self.kind.top().0 + 1))
@@ -38,9 +38,9 @@ impl<D: Disk, K: Kind> Server<D, K> {
 
     // Reserves a block from a rank on, and gives the server that has it in hand.
     fn extend(&mut self, up: Up, series: u8, rank: Rank) -> Result<Up, ServerFault>
-        requires { rank.0 ≤ (K.top self.old.kind).0 }
+        requires { rank.0 ≤ (K.numbering self.old.kind).top.0 }
         ensures kind { self.new.kind ≡ self.old.kind }
-        ensures reserves { Extended (numbering K.tag K.top K.block K.floor K.identifier self.old.kind) up self.old.state (D.meaning self.old.disk) series rank result self.new.state (D.meaning self.new.disk) }
+        ensures reserves { Extended (K.numbering self.old.kind) up self.old.state (D.meaning self.old.disk) series rank result self.new.state (D.meaning self.new.disk) }
     {
         let Up { mut ring, nexts } = up;
         let end = self.block_end(rank);
@@ -56,7 +56,7 @@ impl<D: Disk, K: Kind> Server<D, K> {
     // An identifier of a series at a clock's reading: its rank is the larger of next and the reading's floor.
     pub fn give(&mut self, series: u8, reading: Reading) -> Result<Identifier, ServerFault>
         ensures kind { self.new.kind ≡ self.old.kind }
-        ensures rules { Gave (numbering K.tag K.top K.block K.floor K.identifier self.old.kind) self.old.state (D.meaning self.old.disk) series reading result self.new.state (D.meaning self.new.disk) }
+        ensures rules { Gave (K.numbering self.old.kind) self.old.state (D.meaning self.old.disk) series reading result self.new.state (D.meaning self.new.disk) }
     {
         let mut up = match self.state {
             State::Up(up) => up,
@@ -65,14 +65,13 @@ impl<D: Disk, K: Kind> Server<D, K> {
         if series >= 8 {
             return Err(ServerFault::Series(series));
         }
-        let Some(floor) = self.kind.floor(reading) else {
-            return Err(ServerFault::Reading);
-        };
-        let rank = Rank(up.next(series).0.max(floor.0));
-        let Some(identifier) = self.kind.identifier(series, rank) else {
-            return Err(ServerFault::AboveTop);
-        };
-        if rank.0 >= up.ring.end(series).0 {
+        let floor = self.kind.floor(reading).ok_or(ServerFault::Reading)?;
+        let rank = up.next(series).max(floor);
+        let identifier = self
+            .kind
+            .identifier(series, rank)
+            .ok_or(ServerFault::AboveTop)?;
+        if rank >= up.ring.end(series) {
             up = self.extend(up, series, rank)?;
         }
         self.state = State::Up(up.with_next(series, Rank(rank.0 + 1)));
@@ -82,7 +81,7 @@ impl<D: Disk, K: Kind> Server<D, K> {
     // A power cut, and the fresh start after it: answers the top record.
     pub fn cut(&mut self, tear: u64, supply: u64) -> Result<Sequence, ServerFault>
         ensures kind { self.new.kind ≡ self.old.kind }
-        ensures rules { WasCut (numbering K.tag K.top K.block K.floor K.identifier self.old.kind) (D.meaning self.old.disk) supply result self.new.state (D.meaning self.new.disk) }
+        ensures rules { WasCut (K.numbering self.old.kind) (D.meaning self.old.disk) supply result self.new.state (D.meaning self.new.disk) }
     {
         self.disk.cut(tear, supply);
         let recovered = Ring::recover(&self.disk, self.kind.tag(), self.kind.top());

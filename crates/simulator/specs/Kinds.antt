@@ -3,6 +3,7 @@ use Rattle.std.specs.Prelude.{ℕ, Option}
 use Rattle.record.specs.declared.numbers.Identifier.{Identifier}
 use Rattle.record.specs.declared.numbers.Rank.{Rank}
 use Rattle.record.specs.declared.numbers.Reading.{Reading}
+use Rattle.kind.specs.Meaning.{Numbering}
 use Rattle.kind.specs.Serial.{serial_tag, serial_top, serial_block, serial_floor, serial_identifier}
 use Rattle.kind.specs.Time.{time_tag, time_top, time_block, time_floor, time_identifier}
 use Rattle.simulator.specs.declared.any_kind.AnyKind.{AnyKind}
@@ -27,3 +28,8 @@ floor_of (Time k) = time_floor k
 abbrev pub identifier_of : AnyKind → ℕ → Rank → Identifier
 identifier_of (Serial k) = serial_identifier k
 identifier_of (Time k) = time_identifier k
+
+-- what a kind tells
+abbrev pub numbering_of : AnyKind → Numbering
+numbering_of kind =
+    record { tag = tag_of kind; top = top_of kind; block = block_of kind; floor = floor_of kind; identifier = identifier_of kind }

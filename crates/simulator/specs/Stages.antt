@@ -3,10 +3,10 @@ use Rattle.std.specs.Prelude.{ℕ, ◌*◌, Bool, cond, ◌&&◌, List, [], ◌+
 use Rattle.std.specs.List.{flat_map}
 use Rattle.disk.specs.Meaning.{Meaning}
 use Rattle.kind.specs.declared.time.Lease.{Lease}
-use Rattle.server.specs.Rules.{Numbering, woken}
+use Rattle.server.specs.Rules.{woken}
 use Rattle.server.specs.declared.state.State.{State}
 use Rattle.simulator.specs.Devices.{meaning_of, make_of}
-use Rattle.simulator.specs.Kinds.{tag_of, top_of, block_of, floor_of, identifier_of}
+use Rattle.simulator.specs.Kinds.{numbering_of}
 use Rattle.simulator.specs.declared.any_kind.AnyKind.{AnyKind}
 use Rattle.simulator.specs.declared.device.Make.{Make}
 use Rattle.simulator.specs.declared.device.Make.TheVariants.{Faithful, Torn}
@@ -54,11 +54,6 @@ memory_of (has_ended memory) = memory
 -- the run ends: the memory is left
 abbrev pub closed : View → View
 closed v = has_ended (memory_of v)
-
--- what a kind tells
-abbrev pub numbering_of : AnyKind → Numbering
-numbering_of kind =
-    record { tag = tag_of kind; top = top_of kind; block = block_of kind; floor = floor_of kind; identifier = identifier_of kind }
 
 -- a server is put together over the disk
 abbrev pub started : AnyKind → View → View

@@ -1,5 +1,5 @@
 // The kinds of identifier that a request file may choose.
-ghost use Rattle.simulator.specs.Kinds.{tag_of, top_of, block_of, floor_of, identifier_of};
+ghost use Rattle.simulator.specs.Kinds.{numbering_of};
 ghost use Rattle.std.proofs.Common.{rules};
 
 use kind::{Kind, SerialKind, TimeKind};
@@ -13,25 +13,9 @@ pub enum AnyKind {
 }
 
 impl Kind for AnyKind {
-    ghost tag = { tag_of };
+    ghost numbering = { numbering_of };
 
-    ghost top = { top_of };
-
-    ghost block = { block_of };
-
-    ghost floor = { floor_of };
-
-    ghost identifier = { identifier_of };
-
-    ghost tag_fits = { Prim.search rules };
-
-    ghost top_fits = { Prim.search rules };
-
-    ghost block_least = { Prim.search rules };
-
-    ghost block_most = { Prim.search rules };
-
-    ghost rising = { Prim.search rules };
+    ghost lawful = { Prim.search rules };
 
     fn tag(&self) -> u8 {
         match self {

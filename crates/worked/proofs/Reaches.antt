@@ -9,6 +9,7 @@ use Rattle.disk.specs.Meaning.{Meaning, at, Wrote, Flushed, Cut}
 use Rattle.disk.specs.Devices.{before}
 use Rattle.disk.specs.Tearing.{cut_by_tear}
 use Rattle.disk.specs.declared.torn.Held.{Held}
+use Rattle.kind.specs.Meaning.{Numbering, LawfulKind}
 use Rattle.ring.specs.Left.{Recovers}
 use Rattle.ring.specs.Operations.{performed, outcome}
 use Rattle.ring.specs.Ring.{slot, top, top_below, live, live_below, known, is_foreign, foreign_below, plan, Sized}
@@ -17,8 +18,8 @@ use Rattle.ring.specs.declared.fault.RingFault.{RingFault}
 use Rattle.ring.specs.declared.ring.Ring.{Ring}
 use Rattle.ring.specs.declared.token.Reserved.{Reserved}
 use Rattle.ring.proofs.Starts.{recovers_agrees}
-use Rattle.server.specs.Promise.{LawfulKind, Reached, begun, gave, was_cut}
-use Rattle.server.specs.Rules.{Numbering, format, block_end, Answered, Reserving}
+use Rattle.server.specs.Promise.{Reached, begun, gave, was_cut}
+use Rattle.server.specs.Rules.{format, block_end, Answered, Reserving}
 use Rattle.server.specs.declared.fault.ServerFault.{ServerFault}
 use Rattle.server.specs.declared.state.State.{State}
 use Rattle.server.specs.declared.state.State.TheVariants.{Up as Awake, Down}

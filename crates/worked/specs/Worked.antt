@@ -1,25 +1,26 @@
 -- A history, call by call: a request, a request that a power cut stops in its reservation, the cut, and a request.
 use Rattle.std.specs.Prelude.{◌≡◌, ℕ, false, List, [], ◌∷◌, replicate, Some, Ok, Err, slice_set}
+use Rattle.std.proofs.Common.{lit≤}
 use Rattle.record.specs.Sector.{sound, encoded}
 use Rattle.record.specs.declared.sector.Record.{Record}
 use Rattle.disk.specs.Devices.{mixture, left_sectors}
 use Rattle.disk.specs.Meaning.{Meaning, at, denied}
 use Rattle.disk.specs.declared.fault.Cause.TheVariants.{Dark}
 use Rattle.disk.specs.declared.fault.Operation.TheVariants.{Flush}
+use Rattle.kind.specs.Meaning.{Numbering}
+use Rattle.kind.specs.Serial.{serial_numbering}
 use Rattle.ring.specs.declared.fault.RingFault.{RingFault}
 use Rattle.ring.specs.declared.fault.RingFault.TheVariants.{Interrupted}
 use Rattle.ring.specs.declared.fault.Work.TheVariants.{Reservation}
 use Rattle.server.specs.History.{Event, request, cut, latest}
 use Rattle.server.specs.Promise.{Reached}
-use Rattle.server.specs.Rules.{Numbering}
 use Rattle.server.specs.declared.fault.ServerFault.TheVariants.{Ring}
 use Rattle.server.specs.declared.state.State.{State}
 use Rattle.worked.specs.Blank.{zeros, cleared}
-use Rattle.worked.specs.Kinds.{serial_numbering}
 
 -- the serial kind that reserves one rank at a time, on a disk of ten cleared sectors with three writes and flushes to succeed
 abbrev pub one_by_one : Numbering
-one_by_one = serial_numbering (record { size = 1 })
+one_by_one = serial_numbering (record { size = 1; in_range = (lit≤ tt, lit≤ tt) })
 
 abbrev pub start : Meaning
 start = cleared 10 3

@@ -2,12 +2,9 @@
 use Rattle.std.proofs.Common.{◌+◌, ◌<◌, [], ◌∷◌, ◌++◌, length, get_or, take, vec_items, refl, ap, ◌∙◌, arith}
 use Rattle.std.proofs.lemmas.List.{take_more, take_all}
 use Rattle.std.proofs.lemmas.Result.{MatchResult-from_err}
-use Rattle.server.specs.Promise.{LawfulKind}
-use Rattle.server.specs.Rules.{numbering}
 use Rattle.history.specs.declared.calls.Call.{Call}
 use Rattle.history.specs.declared.calls.Call.TheVariants.{Give}
 use Rattle.history.proofs.Serves.{serving_all, serving_step, served}
-use Rattle.history.proofs.calls.serve.Given as given
 use Rattle.history.proofs.calls.serve.Goals as goal
 
 no_call : Call
@@ -22,24 +19,12 @@ loop-call-preserved g c =
       c.make.ensures.kind ∙ c.loop-call.invariant.0,
       λ start past reached.
           serving_step _ _ start past (take i calls) (take (i + 1) calls) (vec_items c.loop-call.answers) (vec_items c.push.new.self) _ _ (get_or calls i no_call) c.make.result _ _
-          (ap (numbering g.K.Kind.tag g.K.Kind.top g.K.Kind.block g.K.Kind.floor g.K.Kind.identifier) c.loop-call.invariant.0)
+          (ap g.K.Kind.numbering c.loop-call.invariant.0)
           (take_more calls i no_call taken)
           c.in_ok-push.ensures.items
           c.make.ensures.extends
           (c.loop-call.invariant.1 start past reached),
     )
-
--- the kind keeps the laws of its trait
-lawful : (g : given.Over) (k : g.row.K.Denot) → LawfulKind (numbering g.K.Kind.tag g.K.Kind.top g.K.Kind.block g.K.Kind.floor g.K.Kind.identifier k)
-lawful g k =
-    let met = g.met.K.Kind in
-    record {
-      tags = met.tag_fits k;
-      tops = met.top_fits k;
-      least = met.block_least k;
-      most = met.block_most k;
-      rising = met.rising k;
-    }
 
 pub returns : goal.returns
 returns g c =
@@ -48,7 +33,7 @@ returns g c =
     record {
       kind = c.loop-call.invariant.0;
       promise = λ start past reached.
-          served _ start past calls (vec_items c.loop-call.answers) _ _ (lawful g c.args.server.now.kind)
+          served _ start past calls (vec_items c.loop-call.answers) _ _ (g.met.K.Kind.lawful c.args.server.now.kind)
           (serving_all _ start past (take i calls) calls (vec_items c.loop-call.answers) _ _ (take_all i calls (omega arith)) (c.loop-call.invariant.1 start past reached));
     }
 
@@ -67,9 +52,9 @@ returns-in_err-push g c =
             count = i + 1;
             answers = vec_items c.loop-call.answers ++ (c.make.result ∷ []);
             served =
-                served _ start past (take (i + 1) calls) (vec_items c.loop-call.answers ++ (c.make.result ∷ [])) _ _ (lawful g c.args.server.now.kind)
+                served _ start past (take (i + 1) calls) (vec_items c.loop-call.answers ++ (c.make.result ∷ [])) _ _ (g.met.K.Kind.lawful c.args.server.now.kind)
                 (serving_step _ _ start past (take i calls) (take (i + 1) calls) (vec_items c.loop-call.answers) (vec_items c.loop-call.answers ++ (c.make.result ∷ [])) _ _ (get_or calls i no_call) c.make.result _ _
-                (ap (numbering g.K.Kind.tag g.K.Kind.top g.K.Kind.block g.K.Kind.floor g.K.Kind.identifier) c.loop-call.invariant.0)
+                (ap g.K.Kind.numbering c.loop-call.invariant.0)
                 (take_more calls i no_call taken)
                 refl
                 c.make.ensures.extends

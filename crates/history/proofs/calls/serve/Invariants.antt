@@ -3,7 +3,6 @@ use Rattle.std.proofs.Common.{◌≡◌, List, take, vec_items}
 use Rattle.disk.specs.Meaning.{Meaning}
 use Rattle.server.specs.History.{Event}
 use Rattle.server.specs.Promise.{Reached}
-use Rattle.server.specs.Rules.{numbering}
 use Rattle.history.proofs.Serves.{Serving}
 use Rattle.history.proofs.calls.serve.Given as goal
 
@@ -11,5 +10,5 @@ abbrev pub invariant-loop-call : goal.invariant-loop-call
 invariant-loop-call g l =
     (l.server.kind ≡ l.initial.server.kind)
     × ((start : Meaning) (past : List Event) →
-    Reached (numbering g.K.Kind.tag g.K.Kind.top g.K.Kind.block g.K.Kind.floor g.K.Kind.identifier l.initial.server.kind) start past l.initial.server.state (g.D.Disk.meaning l.initial.server.disk) →
-    Serving (numbering g.K.Kind.tag g.K.Kind.top g.K.Kind.block g.K.Kind.floor g.K.Kind.identifier l.initial.server.kind) start past (take l.call-index l.calls) (vec_items l.answers) l.server.state (g.D.Disk.meaning l.server.disk))
+    Reached (g.K.Kind.numbering l.initial.server.kind) start past l.initial.server.state (g.D.Disk.meaning l.initial.server.disk) →
+    Serving (g.K.Kind.numbering l.initial.server.kind) start past (take l.call-index l.calls) (vec_items l.answers) l.server.state (g.D.Disk.meaning l.server.disk))
