@@ -55,11 +55,11 @@ serving_more k start past calls answers state m call answer after m' so_far made
 
 -- the same by what a call extends, of a kind that stayed
 pub serving_step :
-    (k k' : Numbering) (start : Meaning) (past : List Event) (calls calls' : List Call) (answers answers' : List Answer) (state : State) (m : Meaning) (call : Call) (answer : Answer) (after : State) (m' : Meaning) →
+    {k k' : Numbering} {start : Meaning} {past : List Event} {calls calls' : List Call} {answers answers' : List Answer} {state : State} {m : Meaning} {call : Call} {answer : Answer} {after : State} {m' : Meaning} →
     k' ≡ k → calls' ≡ calls ++ (call ∷ []) → answers' ≡ answers ++ (answer ∷ []) →
     ((begin : Meaning) (h : List Event) → Reached k' begin h state m → Made k' begin h call answer after m') →
     Serving k start past calls answers state m → Serving k start past calls' answers' after m'
-serving_step k k' start past calls calls' answers answers' state m call answer after m' same more-calls more-answers extends so_far =
+serving_step {k} {k'} {start} {past} {calls} {calls'} {answers} {answers'} {state} {m} {call} {answer} {after} {m'} same more-calls more-answers extends so_far =
     let extends_k : (begin : Meaning) (h : List Event) → Reached k begin h state m → Made k begin h call answer after m' =
     subst (λ (x : Numbering). (begin : Meaning) (h : List Event) → Reached x begin h state m → Made x begin h call answer after m') same extends in
     subst (λ (x : List Call). Serving k start past x answers' after m') (sym more-calls)
@@ -67,15 +67,15 @@ serving_step k k' start past calls calls' answers answers' state m call answer a
     (serving_more k start past calls answers state m call answer after m' so_far (extends_k start (so_far.events ++ past) so_far.reached)))
 
 pub serving_all :
-    (k : Numbering) (start : Meaning) (past : List Event) (calls calls' : List Call) (answers : List Answer) (state : State) (m : Meaning) → calls ≡ calls' →
+    {k : Numbering} {start : Meaning} {past : List Event} {calls calls' : List Call} {answers : List Answer} {state : State} {m : Meaning} → calls ≡ calls' →
     Serving k start past calls answers state m → Serving k start past calls' answers state m
-serving_all k start past calls calls' answers state m e so_far = subst (λ (x : List Call). Serving k start past x answers state m) e so_far
+serving_all {k} {start} {past} {calls} {calls'} {answers} {state} {m} e so_far = subst (λ (x : List Call). Serving k start past x answers state m) e so_far
 
 -- the theorem says what all of them obey
 pub served :
-    (k : Numbering) (start : Meaning) (past : List Event) (calls : List Call) (answers : List Answer) (state : State) (m : Meaning) → LawfulKind k →
+    {k : Numbering} {start : Meaning} {past : List Event} {calls : List Call} {answers : List Answer} {state : State} {m : Meaning} → LawfulKind k →
     Serving k start past calls answers state m → Served k start past calls answers state m
-served k start past calls answers state m lawful so_far =
+served {k} {start} {past} {calls} {answers} {state} {m} lawful so_far =
     record {
       events = so_far.events;
       asked = so_far.asked;

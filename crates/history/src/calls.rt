@@ -26,6 +26,7 @@ pub enum Answer {
 }
 
 // Makes one call: it extends a history by what the server's own call promises, and every such history obeys the laws.
+#[tactic(auto, using(crate::proofs::Obeys::every_history_obeys, crate::proofs::Serves::request_made, crate::proofs::Serves::cut_made))]
 pub fn make<D: Disk, K: Kind>(server: &mut Server<D, K>, call: Call) -> Answer
     ensures kind { server.new.kind ≡ server.old.kind }
     ensures extends { (start : Meaning) (past : List Event) → Reached (K.numbering server.old.kind) start past server.old.state (D.meaning server.old.disk) → Made (K.numbering server.old.kind) start past call result server.new.state (D.meaning server.new.disk) }
