@@ -2,7 +2,7 @@
 // of its sixteen writes and flushes in turn.
 #![tactic(auto)]
 
-use disk::{BadSize, Disk, FaithfulDisk, Operation, TornDisk};
+use disk::{BadSize, Disk, FaithfulDisk, TornDisk};
 use record::{Rank, SECTOR_BYTES};
 use ring::{Reserved, Ring, RingFault, Work};
 use std::{fmt, io};
@@ -25,15 +25,6 @@ struct Answer(Result<Reserved, RingFault>);
 #[derive(Clone, Copy)]
 struct Recovered(Result<Ring, RingFault>);
 
-// The name of what was asked of a disk.
-fn operation_name(operation: Operation) -> &'static str {
-    match operation {
-        Operation::Read => "read",
-        Operation::Write => "write",
-        Operation::Flush => "flush",
-    }
-}
-
 impl fmt::Display for Answer {
     // Blanks after the shorter texts keep what follows in one column.
     fn fmt<W: fmt::Write>(&self, f: &mut fmt::Formatter<W>) -> fmt::Result {
@@ -44,7 +35,7 @@ impl fmt::Display for Answer {
                 reserved.series
             ),
             Err(RingFault::Interrupted(stopped)) => {
-                let operation = operation_name(stopped.fault.operation);
+                let operation = stopped.fault.operation;
                 let sector = stopped.fault.sector;
                 write!(f, "dark at the {operation} of sector {sector}, ")?;
                 match stopped.work {

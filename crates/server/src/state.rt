@@ -48,19 +48,10 @@ pub(crate) fn wake(recovered: Result<Ring, RingFault>) -> State
     ensures { result ≡ awake recovered }
 {
     match recovered {
-        Ok(ring) => {
-            let nexts = [
-                ring.end(0),
-                ring.end(1),
-                ring.end(2),
-                ring.end(3),
-                ring.end(4),
-                ring.end(5),
-                ring.end(6),
-                ring.end(7),
-            ];
-            State::Up(Up { ring, nexts })
-        }
+        Ok(ring) => State::Up(Up {
+            ring,
+            nexts: ring.ends(),
+        }),
         Err(fault) => State::Down(fault),
     }
 }
