@@ -1,7 +1,7 @@
 -- What a cut leaves of a ring: nothing changes at rest, and of an unflushed write only the gap is open.
-use Rattle.std.proofs.Common.{◌≡◌, ℕ, ◌+◌, ◌%◌, ◌<◌, false, ◌≢◌, ◌⊎◌, List, [], length, set, Some, None, sym, refl, ap, ◌∙◌, subst, inl, inr, ⊎_elim, arith}
+use Rattle.std.proofs.Common.{◌≡◌, ℕ, ◌+◌, ◌%◌, ◌<◌, false, ◌≢◌, ◌⊎◌, List, [], length, set, Some, None, sym, ap, ◌∙◌, subst, inl, inr, ⊎_elim, arith}
 use Rattle.std.proofs.lemmas.List.{get_or_default, get_or-set_same, get_or-set_other, length-set, same_lists, set-get_or}
-use Rattle.std.proofs.lemmas.Bool.{cases_eq, eqb-false}
+use Rattle.std.proofs.lemmas.Bool.{cases_eq}
 use Rattle.record.specs.Sector.{content, sound}
 use Rattle.record.specs.declared.sector.Content.TheVariants.{Blank}
 use Rattle.record.specs.declared.sector.Format.{Format}
@@ -9,7 +9,6 @@ use Rattle.record.specs.declared.sector.Record.{Record}
 use Rattle.disk.specs.Meaning.{Meaning, at, Wrote, Cut}
 use Rattle.ring.specs.Left.{Recovers, CutAtRest}
 use Rattle.ring.specs.Ring.{record_in, slot, top, live_of, live, gap, is_foreign}
-use Rattle.ring.specs.declared.known.Live.{Live}
 use Rattle.ring.proofs.Slots.{placed, Among, top_above, top-held, top_is, live_above, live-held, live_is}
 use Rattle.ring.proofs.Writes.{apart, gap_lies, slot_other, slot-set}
 
@@ -72,7 +71,7 @@ module _ (m m' left : Meaning) (g supply : ℕ) (bytes : List ℕ) (kept : m.kep
 -- a sector that is not sound is blank
 pub blank_from : (f : Format) (k : ℕ) (x : List ℕ) → sound x ≡ false → content f k x ≡ Blank
 unfolding content
-blank_from f k x e = rw e refl
+blank_from f k x e = grind arith
 
 -- a blanked gap changes nothing but its own sector
 module _ (f : Format) (reading : List (List ℕ)) (recovers : Recovers f reading) (x : List ℕ) (blank : sound x ≡ false) where
@@ -116,11 +115,7 @@ module _ (f : Format) (reading : List (List ℕ)) (recovers : Recovers f reading
       omega (arith, recovers.sized.least)
 
   live_elsewhere : (t : ℕ) (r : Record) (a : Among f reading (length reading) r) → r.series ≡ t → live f reading t ≡ live_of r → a.at_sector ≢ gap f reading
-  live_elsewhere t r a same is here =
-      let in_gap : slot f reading (gap f reading) ≡ Some r = ap (slot f reading) (sym here) ∙ a.holds in
-      let number : (live f reading r.series).number.0 ≡ r.sequence.0 =
-      ap (λ (y : ℕ). (live f reading y).number.0) same ∙ ap (λ (l : Live). l.number.0) is in
-      eqb-false r.sequence.0 (live f reading r.series).number.0 (recovers.free r in_gap) (sym number)
+  live_elsewhere t r a same is here = grind arith
 
   pub top_blanked : top f after ≡ top f reading
   top_blanked =

@@ -3,14 +3,14 @@ use Rattle.std.proofs.Common.{◌≡◌, ℕ, zero, suc, ◌+◌, ◌-◌, ◌<�
 use Rattle.std.specs.List.{range_with_len}
 use Rattle.std.proofs.lemmas.List.FromFn.{get_or-map-range_with_len, length-map-range_with_len}
 use Rattle.std.proofs.lemmas.List.{get_or-set_same, get_or-set_other, length-set, same_lists}
-use Rattle.std.proofs.lemmas.Bool.{cases_eq, eq-eqb, ne_eqb, le-ltb, lt-ltb}
+use Rattle.std.proofs.lemmas.Bool.{cases_eq, eq-eqb, ne_eqb}
 use Rattle.record.specs.Sector.{content}
 use Rattle.record.specs.declared.sector.Content.{Content}
 use Rattle.record.specs.declared.sector.Content.TheVariants.{Blank, Foreign, Record as Holds}
 use Rattle.record.specs.declared.sector.Format.{Format}
 use Rattle.record.specs.declared.sector.Record.{Record}
 use Rattle.disk.specs.Meaning.{at, found}
-use Rattle.ring.specs.Ring.{record_in, slot, number_in, top_below, top, none, live_of, live_in, newer, live_below, live, known, met, is_foreign, foreign_below, scanned}
+use Rattle.ring.specs.Ring.{record_in, slot, number_in, top_below, top, none, live_of, live_in, newer, live_below, live, met, is_foreign, foreign_below, scanned}
 use Rattle.ring.specs.declared.fault.RingFault.TheVariants.{Foreign as Foreign'}
 use Rattle.ring.specs.declared.known.Known.{Known}
 use Rattle.ring.specs.declared.known.Live.{Live}
@@ -26,16 +26,16 @@ known_below f reading n =
 
 -- a read of a sector that is there
 pub found_at : (reading : List (List ℕ)) (i : ℕ) (bytes : List ℕ) → i < length reading → Ok bytes ≡ found reading i → bytes ≡ at reading i
-found_at reading i bytes l e = let here = rw (lt-ltb i (length reading) l) at e in cc
+found_at reading i bytes l e = grind arith
 
 abbrev knowing : ℕ → List Live → Known
 knowing t lives = record { top = record { 0 = t }; lives = lives }
 
 same_known : (a b : ℕ) (x y : List Live) → a ≡ b → x ≡ y → knowing a x ≡ knowing b y
-same_known a b x y p q = ap (λ (t : ℕ). knowing t x) p ∙ ap (knowing b) q
+same_known a b x y p q = grind arith
 
 newer-none : (a b : Live) → b.number.0 ≡ 0 → newer a b ≡ a
-newer-none a b z = rw (le-ltb a.number.0 b.number.0 (omega arith)) refl
+newer-none a b z = grind arith
 
 lives_below_length : (f : Format) (reading : List (List ℕ)) (n : ℕ) → length (known_below f reading n).lives ≡ 8
 lives_below_length f reading n = length-map-range_with_len (λ s. live_below f reading s n) 0 8
@@ -105,11 +105,11 @@ module _ (f : Format) (reading : List (List ℕ)) (n : ℕ) where
   -- none foreign so far
   pub foreign_none : (c : Content) → content f n (at reading n) ≡ c → is_foreign c ≡ false → foreign_below f reading n ≡ None → foreign_below f reading (suc n) ≡ None
   unfolding foreign_below
-  foreign_none c e native none_yet = rw (none_yet, e, native) refl
+  foreign_none c e native none_yet = grind arith
 
   pub foreign_here : content f n (at reading n) ≡ Foreign → foreign_below f reading n ≡ None → foreign_below f reading (suc n) ≡ Some n
   unfolding foreign_below
-  foreign_here e none_yet = rw (none_yet, e) refl
+  foreign_here e none_yet = grind arith
 
 -- the lowest foreign sector stays the lowest
 foreign_stays : (f : Format) (reading : List (List ℕ)) (i n k : ℕ) → foreign_below f reading n ≡ Some i → foreign_below f reading (n + k) ≡ Some i
@@ -161,8 +161,4 @@ module _ (f : Format) (reading : List (List ℕ)) (sectors n : ℕ) (all : secto
 
   pub scan_ends : (k : Known) → n ≡ sectors → (foreign_below f reading n ≡ None) × (k ≡ known_below f reading n) → Ok k ≡ scanned f reading (foreign_below f reading (length reading))
   unfolding top live
-  scan_ends k e inv =
-      let m : n ≡ length reading = e ∙ all in
-      let f_none : foreign_below f reading (length reading) ≡ None = ap (foreign_below f reading) (sym m) ∙ inv.0 in
-      let k_is : k ≡ known f reading = inv.1 ∙ ap (known_below f reading) m in
-      rw f_none (ap Ok k_is)
+  scan_ends k e inv = grind arith
