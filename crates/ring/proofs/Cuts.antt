@@ -1,5 +1,6 @@
 -- What a cut leaves of a ring: nothing changes at rest, and of an unflushed write only the gap is open.
 use Rattle.std.proofs.Common.{◌≡◌, ℕ, ◌+◌, ◌%◌, ◌<◌, false, ◌≢◌, ◌⊎◌, List, [], length, set, Some, None, sym, ap, ◌∙◌, subst, inl, inr, ⊎_elim, arith}
+use Rattle.std.proofs.lemmas.Grind.{common_steps}
 use Rattle.std.proofs.lemmas.List.{get_or_default, get_or-set_same, get_or-set_other, length-set, same_lists, set-get_or}
 use Rattle.std.proofs.lemmas.Bool.{cases_eq}
 use Rattle.record.specs.Sector.{content, sound}
@@ -27,26 +28,12 @@ module _ (m m' left : Meaning) (g supply : ℕ) (bytes : List ℕ) (kept : m.kep
   was : (k : ℕ) → at m.kept k ≡ at m.reading k
   was k = ap (λ (xs : List (List ℕ)). at xs k) kept
 
-  reads_other : (k : ℕ) → k ≢ g → at m'.reading k ≡ at m.reading k
-  reads_other k ne = ap (λ (xs : List (List ℕ)). at xs k) wrote.reads ∙ get_or-set_other m.reading g k bytes [] ne
-
-  reads_gap : at m'.reading g ≡ bytes
-  reads_gap = ap (λ (xs : List (List ℕ)). at xs g) wrote.reads ∙ get_or-set_same m.reading g bytes [] lies
-
   other_stays : (k : ℕ) → k ≢ g → at left.reading k ≡ at m.reading k
-  other_stays k ne =
-      let same : at m'.kept k ≡ at m'.reading k =
-      ⊎_elim (λ e. e ∙ was k ∙ sym (reads_other k ne)) (⊎_elim (λ e. e ∙ sym (reads_other k ne)) (λ e. e)) (wrote.keeps k) in
-      cut.settled k same ∙ reads_other k ne
+  other_stays k ne = grind (arith, common_steps)
 
   -- the gap holds its old content, the new one, or is blank
   gap-holds : (at left.reading g ≡ at m.reading g) ⊎ ((at left.reading g ≡ bytes) ⊎ (sound (at left.reading g) ≡ false))
-  gap-holds =
-      ⊎_elim
-      (λ e.
-      ⊎_elim (λ k. inl (e ∙ k ∙ was g)) (⊎_elim (λ k. inl (e ∙ k)) (λ k. inr (inl (e ∙ k ∙ reads_gap)))) (wrote.keeps g))
-      (⊎_elim (λ e. inr (inl (e ∙ reads_gap))) (λ e. inr (inr e)))
-      (cut.reads g)
+  gap-holds = grind (arith, common_steps)
 
   only_gap : left.reading ≡ set m.reading g (at left.reading g)
   only_gap =

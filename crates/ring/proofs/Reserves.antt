@@ -1,5 +1,6 @@
 -- A reservation from the end of its search: written and flushed, or stopped at one of the two.
-use Rattle.std.proofs.Common.{◌≡◌, ℕ, suc, ◌+◌, ◌^◌, ◌<◌, ◌≤◌, List, [], ◌∷◌, length, None, Ok, Err, Option, Result, MatchResult, sym, refl, ap, ◌∙◌, subst, arith}
+use Rattle.std.proofs.Common.{◌≡◌, ℕ, suc, ◌+◌, ◌^◌, ◌<◌, ◌≤◌, List, [], ◌∷◌, None, Ok, Err, Option, Result, MatchResult, sym, refl, ap, ◌∙◌, subst, arith}
+use Rattle.std.proofs.lemmas.Grind.{common_steps}
 use Rattle.record.specs.Sector.{encoded}
 use Rattle.record.specs.declared.numbers.Rank.{Rank}
 use Rattle.record.specs.declared.sector.Format.{Format}
@@ -22,8 +23,8 @@ use Rattle.ring.specs.declared.token.Reserved.{Reserved}
 use Rattle.ring.specs.declared.token.Unconfirmed.{Unconfirmed}
 use Rattle.ring.specs.declared.token.Written.{Written}
 use Rattle.ring.proofs.Knows.{clear_from}
-use Rattle.ring.proofs.Searches.{knows_gap, reads_written, agrees_written, same_format, agrees_reading, told-dark}
-use Rattle.ring.proofs.Writes.{Clear, Writable, gap_lies, same_length}
+use Rattle.ring.proofs.Searches.{knows_gap, agrees_written, same_format, agrees_reading, told-dark}
+use Rattle.ring.proofs.Writes.{Clear, Writable}
 
 pub may_search : (r : Ring) (m : Meaning) (s : ℕ) (end : Rank) → MayReserve r m s end → MaySearch r m s
 may_search r m s end may = grind arith
@@ -63,13 +64,7 @@ module _ (s : ℕ) (end : Rank) (whole : Meaning) (r : Ring) (m : Meaning) (clea
     put_there = grind arith
 
     gap_there : gap r.format m.reading < count m'
-    gap_there =
-        omega (
-          arith,
-          gap_lies r.format m.reading cleared.agrees.sized,
-          ap length (reads_written r m cleared.agrees low s end r' m' writable clear writes),
-          same_length r.format m.reading cleared.agrees.sized s end.0 writable,
-        )
+    gap_there = grind (arith, common_steps)
 
     -- the current fails at the flush
     pub ended_at_flush :

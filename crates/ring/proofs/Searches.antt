@@ -1,5 +1,6 @@
 -- One turn of the search: a carry leads on, darkness stops it, and where nothing is to be carried it ends.
 use Rattle.std.proofs.Common.{◌≡◌, ℕ, suc, ◌+◌, ◌-◌, ◌^◌, ◌<◌, cond, eqb, List, [], ◌∷◌, length, set, Some, None, Ok, Err, Result, sym, refl, ap, ◌∙◌, subst, arith}
+use Rattle.std.proofs.lemmas.Grind.{common_steps}
 use Rattle.std.proofs.lemmas.List.FromFn.{length-map-range_with_len}
 use Rattle.std.proofs.lemmas.Bool.{lt-ltb}
 use Rattle.record.specs.Sector.{encoded}
@@ -20,7 +21,7 @@ use Rattle.ring.specs.declared.ring.Ring.{Ring}
 use Rattle.ring.specs.declared.token.Reserved.{Reserved}
 use Rattle.ring.proofs.Carries.{carry_fewer, carry_writable, carry_clear}
 use Rattle.ring.proofs.Knows.{known_written, native_written, left_seven}
-use Rattle.ring.proofs.Writes.{Clear, Writable, gap_lies, top-written, free_written, sized_written, same_length}
+use Rattle.ring.proofs.Writes.{Clear, Writable, top-written, free_written, sized_written}
 
 -- the plan, by whether something is to be carried
 pub plan-ends : (f : Format) (n s end : ℕ) (reading : List (List ℕ)) → carried f reading s ≡ None → plan f n s end reading ≡ reserving f reading s end ∷ []
@@ -233,22 +234,11 @@ module _ (s : ℕ) (whole : Meaning) (r : Ring) (m : Meaning) (search : Searchin
 
     -- the current fails at its flush
     module _ (fault : DiskFault) (r' : Ring) (m' : Meaning) (writes : Writes r m q.series q.end r' m') (answer : answer_of Flush m' (known_gap r) ≡ Err fault) where
-      reads_now : m'.reading ≡ with_record r.format m.reading new
-      reads_now = reads_written r m search.agrees low q.series q.end r' m' writable clear writes
-
       gap_there : gap r.format m.reading < count m'
-      gap_there =
-          omega (
-            arith,
-            gap_lies r.format m.reading search.agrees.sized,
-            ap length reads_now,
-            same_length r.format m.reading search.agrees.sized q.series q.end.0 writable,
-          )
+      gap_there = grind (arith, common_steps)
 
       at_flush : (m'.supply ≡ 0) × (fault ≡ denied Dark Flush (gap r.format m.reading))
-      at_flush =
-          let g = knows_gap r m search.agrees low in
-          told-dark Flush m' (gap r.format m.reading) fault gap_there (rw g at answer)
+      at_flush = grind (arith, common_steps)
 
       last_one : m.supply ≡ 1
       last_one = omega (arith, writes.0.spends, at_flush.0)

@@ -1,5 +1,6 @@
 -- What a record written into the gap changes: one lemma for a reservation and for a carry.
 use Rattle.std.proofs.Common.{◌≡◌, ℕ, ◌+◌, ◌%◌, ◌^◌, ◌<◌, ◌≤◌, true, false, ◌&&◌, eqb, ◌≢◌, ◌⊎◌, List, [], length, set, Some, sym, refl, ap, ◌∙◌, inl, inr, ⊎_elim, arith}
+use Rattle.std.proofs.lemmas.Grind.{common_steps}
 use Rattle.std.proofs.lemmas.Nat.{mod_below}
 use Rattle.std.proofs.lemmas.List.{get_or-set_same, get_or-set_other, length-set}
 use Rattle.std.proofs.lemmas.Bool.{cases_eq, eq-eqb, ne_eqb}
@@ -167,11 +168,4 @@ module _ (f : Format) (reading : List (List ℕ)) (sized : Sized f reading) wher
           (cases_eq q.series s)
 
     pub sized_written : Sized f after
-    sized_written =
-        record {
-          count = sized.count ∙ sym same_length;
-          least = omega (arith, sized.least, same_length);
-          most = omega (arith, sized.most, same_length);
-          tags = sized.tags;
-          tops = sized.tops;
-        }
+    sized_written = grind (arith, common_steps)
