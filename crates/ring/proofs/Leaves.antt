@@ -201,11 +201,14 @@ module _ (f : Format) (s end start : ℕ) (series : s < 8) (some : 1 ≤ end) (u
     tops : top f reading < top f after
     most : top f after ≤ start + 8
 
-  as_is : (n : ℕ) (m left : Meaning) (supply : ℕ) → State n m → Cut m supply left → Leaves m.reading left.reading
-  as_is n m left supply state cut =
-      let same = cut_at_rest m left supply state.kept cut in
+  -- nothing is changed
+  stays : (n : ℕ) (m : Meaning) (after : List (List ℕ)) → State n m → after ≡ m.reading → Leaves m.reading after
+  stays n m after state same =
       subst (Leaves m.reading) (sym same)
       (record { recovers = state.recovers; ends = λ t. inl refl; tops = omega arith; most = omega (arith, state.few) })
+
+  as_is : (n : ℕ) (m left : Meaning) (supply : ℕ) → State n m → Cut m supply left → Leaves m.reading left.reading
+  as_is n m left supply state cut = stays n m left.reading state (cut_at_rest m left supply state.kept cut)
 
   last_writable : (n : ℕ) (m : Meaning) → State n m → Writable f m.reading s end
   last_writable n m state = record { series = series; numbered = omega (arith, state.few); some = some; ends = upper }
@@ -235,7 +238,7 @@ module _ (f : Format) (s end start : ℕ) (series : s < 8) (some : 1 ≤ end) (u
   reserving-leaves n m after left supply (suc zero) state e is went cut =
       let wrote : Wrote m (gap f m.reading) (encoded f.tag (next f m.reading s end)) after = subst (λ (x : Meaning). Wrote m (gap f m.reading) (encoded f.tag (next f m.reading s end)) x) (sym went.2) went.1 in
       ⊎_elim
-      (λ same. subst (Leaves m.reading) (sym same) (record { recovers = state.recovers; ends = λ t. inl refl; tops = omega arith; most = omega (arith, state.few) }))
+      (stays n m left.reading state)
       (⊎_elim
       (λ same. subst (Leaves m.reading) (sym same) (written-leaves n m state e))
       (λ h. blank_leaves n m state left.reading h))
@@ -308,7 +311,7 @@ module _ (f : Format) (s end start : ℕ) (series : s < 8) (some : 1 ≤ end) (u
       let c = carry_clear f m.reading s q e in
       let t = top-written f m.reading state.recovers.sized q.series q.end.0 w in
       ⊎_elim
-      (λ same. subst (Leaves m.reading) (sym same) (record { recovers = state.recovers; ends = λ t. inl refl; tops = omega arith; most = omega (arith, state.few) }))
+      (stays (suc n) m left.reading state)
       (⊎_elim
       (λ same.
       subst (Leaves m.reading) (sym same)
