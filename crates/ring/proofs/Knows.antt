@@ -1,7 +1,7 @@
 -- What is known stays what is read, and the search for the gap carries each other series once at most.
 use Rattle.std.proofs.Common.{◌≡◌, ℕ, zero, suc, ◌+◌, ◌<◌, ◌≤◌, true, false, not, ◌&&◌, eqb, ltb, leb, ◌≢◌, List, [], ◌∷◌, length, get_or, set, Some, None, sym, refl, ap, ◌∙◌, subst, ⊎_elim, arith}
-use Rattle.std.proofs.lemmas.List.FromFn.{get_or-map-range_with_len, length-map-range_with_len}
-use Rattle.std.proofs.lemmas.List.{get_or-set_same, get_or-set_other, length-set, same_lists}
+use Rattle.std.proofs.lemmas.List.FromFn.{get_or-map-range_with_len, length-map-range_with_len, fill_by_all}
+use Rattle.std.proofs.lemmas.List.{get_or-set_same, get_or-set_other, length-set}
 use Rattle.std.proofs.Math.Bool.{and-true}
 use Rattle.std.proofs.lemmas.Bool.{cases_eq, cases_Bool, eq-eqb, ne_eqb, le-leb, lt-leb, lt-ltb}
 use Rattle.record.specs.Sector.{content, encoded}
@@ -25,27 +25,21 @@ module _ (f : Format) (reading : List (List ℕ)) (sized : Sized f reading) (s e
 
   lives_written : Free f reading → set (known f reading).lives s (live_of new) ≡ (known f (with_record f reading new)).lives
   lives_written free =
+      let after = live f (with_record f reading new) in
+      let lives = (known f reading).lives in
       let n = length-map-range_with_len (live f reading) 0 8 in
-      let m = length-map-range_with_len (live f (with_record f reading new)) 0 8 in
-      let len = length-set (known f reading).lives s (live_of new) in
-      same_lists _ _ (omega arith)
-      (λ k d h.
-      let here : get_or (known f (with_record f reading new)).lives k d ≡ live f (with_record f reading new) k =
-      get_or-map-range_with_len (live f (with_record f reading new)) 0 8 k k d (omega arith) (omega arith) in
-      let old : get_or (known f reading).lives k d ≡ live f reading k =
-      get_or-map-range_with_len (live f reading) 0 8 k k d (omega arith) (omega arith) in
+      fill_by_all after (set lives s (live_of new)) 8 none (length-set lives s (live_of new) ∙ n)
+      (λ k h.
       ⊎_elim
       (λ same.
-      ap (λ (j : ℕ). get_or (set (known f reading).lives s (live_of new)) j d) same
-      ∙ get_or-set_same (known f reading).lives s (live_of new) d (omega (arith, w.series))
+      ap (λ (j : ℕ). get_or (set lives s (live_of new)) j none) same
+      ∙ get_or-set_same lives s (live_of new) none (omega (arith, w.series))
       ∙ sym (live_written f reading sized s end w)
-      ∙ ap (live f (with_record f reading new)) (sym same)
-      ∙ sym here)
+      ∙ ap after (sym same))
       (λ ne.
-      get_or-set_other (known f reading).lives s k (live_of new) d ne
-      ∙ old
-      ∙ sym (live_other f reading sized s end w free k ne)
-      ∙ sym here)
+      get_or-set_other lives s k (live_of new) none ne
+      ∙ knows_live f reading k h
+      ∙ sym (live_other f reading sized s end w free k ne))
       (cases_eq k s))
 
   pub known_written : Free f reading → noted (known f reading) new ≡ known f (with_record f reading new)

@@ -45,7 +45,7 @@ impl Live {
     };
 }
 
-// The one of the higher number; the first of two that have the same.
+// The one of the higher number, and the first where they are equal, where max_by_key would take the second.
 fn newest(a: Live, b: Live) -> Live
     ensures { result ≡ newer a b }
 {
