@@ -74,7 +74,8 @@ fn fill<D: Disk>(disk: &mut D, ring: &mut Ring) -> Result<(), RingFault> {
     Ok(())
 }
 
-// On a new disk the ring is filled; then the reservation with seven carries, with so much supply, and a cut after it.
+// On a new disk the ring is filled; then the reservation with seven carries, with so much supply, and a cut after it. The disk
+// is lent, since the borrow checker does not cover it as a value in a Result.
 fn stop_at<D: Disk>(
     rt: &HostRuntime,
     disk: &mut Result<D, BadSize<'_>>,

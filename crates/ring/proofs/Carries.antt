@@ -11,10 +11,7 @@ use Rattle.ring.proofs.Writes.{Clear, Writable, old_beyond}
 
 -- the sector after the gap holds it, so no live record of another series
 pub carry_clear : (f : Format) (reading : List (List ℕ)) (s : ℕ) (q : Record) → carried f reading s ≡ Some q → Clear f reading q.series
-carry_clear f reading s q e o at-beyond ne =
-    let both : Some o ≡ Some q = sym at-beyond ∙ (carried_is f reading s q e).0 in
-    let same : o ≡ q = cc in
-    absurd (ne (ap (λ (x : Record). x.series) same))
+carry_clear f reading s q e o at-beyond ne = grind arith
 
 -- in a search that began with the top at start, and has carried at most as many records as other series were left then
 module _ (f : Format) (reading : List (List ℕ)) (sized : Sized f reading) (lives : List Live) (knows : lives ≡ (known f reading).lives) (s start : ℕ) (since : start ≤ top f reading) (few : top f reading + left start s 0 lives ≤ start + 7) (numbers : start + 8 < 2 ^ 62) (q : Record) (e : carried f reading s ≡ Some q) where

@@ -1,7 +1,8 @@
 -- What a cut leaves of a ring: nothing changes at rest, and of an unflushed write only the gap is open.
-use Rattle.std.proofs.Common.{◌≡◌, ℕ, ◌+◌, ◌%◌, ◌<◌, false, ◌≢◌, ◌⊎◌, List, [], length, set, Some, None, sym, refl, ap, ◌∙◌, subst, inl, inr, ⊎_elim, arith}
+use Rattle.std.proofs.Common.{◌≡◌, ℕ, ◌+◌, ◌%◌, ◌<◌, false, ◌≢◌, ◌⊎◌, List, [], length, set, Some, None, sym, ap, ◌∙◌, subst, inl, inr, ⊎_elim, arith}
+use Rattle.std.proofs.lemmas.Grind.{common_steps}
 use Rattle.std.proofs.lemmas.List.{get_or_default, get_or-set_same, get_or-set_other, length-set, same_lists, set-get_or}
-use Rattle.std.proofs.lemmas.Bool.{cases_eq, eqb-false}
+use Rattle.std.proofs.lemmas.Bool.{cases_eq}
 use Rattle.record.specs.Sector.{content, sound}
 use Rattle.record.specs.declared.sector.Content.TheVariants.{Blank}
 use Rattle.record.specs.declared.sector.Format.{Format}
@@ -9,7 +10,6 @@ use Rattle.record.specs.declared.sector.Record.{Record}
 use Rattle.disk.specs.Meaning.{Meaning, at, Wrote, Cut}
 use Rattle.ring.specs.Left.{Recovers, CutAtRest}
 use Rattle.ring.specs.Ring.{record_in, slot, top, live_of, live, gap, is_foreign}
-use Rattle.ring.specs.declared.known.Live.{Live}
 use Rattle.ring.proofs.Slots.{placed, Among, top_above, top-held, top_is, live_above, live-held, live_is}
 use Rattle.ring.proofs.Writes.{apart, gap_lies, slot_other, slot-set}
 
@@ -28,26 +28,12 @@ module _ (m m' left : Meaning) (g supply : ℕ) (bytes : List ℕ) (kept : m.kep
   was : (k : ℕ) → at m.kept k ≡ at m.reading k
   was k = ap (λ (xs : List (List ℕ)). at xs k) kept
 
-  reads_other : (k : ℕ) → k ≢ g → at m'.reading k ≡ at m.reading k
-  reads_other k ne = ap (λ (xs : List (List ℕ)). at xs k) wrote.reads ∙ get_or-set_other m.reading g k bytes [] ne
-
-  reads_gap : at m'.reading g ≡ bytes
-  reads_gap = ap (λ (xs : List (List ℕ)). at xs g) wrote.reads ∙ get_or-set_same m.reading g bytes [] lies
-
   other_stays : (k : ℕ) → k ≢ g → at left.reading k ≡ at m.reading k
-  other_stays k ne =
-      let same : at m'.kept k ≡ at m'.reading k =
-      ⊎_elim (λ e. e ∙ was k ∙ sym (reads_other k ne)) (⊎_elim (λ e. e ∙ sym (reads_other k ne)) (λ e. e)) (wrote.keeps k) in
-      cut.settled k same ∙ reads_other k ne
+  other_stays k ne = grind (arith, common_steps)
 
   -- the gap holds its old content, the new one, or is blank
   gap-holds : (at left.reading g ≡ at m.reading g) ⊎ ((at left.reading g ≡ bytes) ⊎ (sound (at left.reading g) ≡ false))
-  gap-holds =
-      ⊎_elim
-      (λ e.
-      ⊎_elim (λ k. inl (e ∙ k ∙ was g)) (⊎_elim (λ k. inl (e ∙ k)) (λ k. inr (inl (e ∙ k ∙ reads_gap)))) (wrote.keeps g))
-      (⊎_elim (λ e. inr (inl (e ∙ reads_gap))) (λ e. inr (inr e)))
-      (cut.reads g)
+  gap-holds = grind (arith, common_steps)
 
   only_gap : left.reading ≡ set m.reading g (at left.reading g)
   only_gap =
@@ -72,7 +58,7 @@ module _ (m m' left : Meaning) (g supply : ℕ) (bytes : List ℕ) (kept : m.kep
 -- a sector that is not sound is blank
 pub blank_from : (f : Format) (k : ℕ) (x : List ℕ) → sound x ≡ false → content f k x ≡ Blank
 unfolding content
-blank_from f k x e = rw e refl
+blank_from f k x e = grind arith
 
 -- a blanked gap changes nothing but its own sector
 module _ (f : Format) (reading : List (List ℕ)) (recovers : Recovers f reading) (x : List ℕ) (blank : sound x ≡ false) where
@@ -116,11 +102,7 @@ module _ (f : Format) (reading : List (List ℕ)) (recovers : Recovers f reading
       omega (arith, recovers.sized.least)
 
   live_elsewhere : (t : ℕ) (r : Record) (a : Among f reading (length reading) r) → r.series ≡ t → live f reading t ≡ live_of r → a.at_sector ≢ gap f reading
-  live_elsewhere t r a same is here =
-      let in_gap : slot f reading (gap f reading) ≡ Some r = ap (slot f reading) (sym here) ∙ a.holds in
-      let number : (live f reading r.series).number.0 ≡ r.sequence.0 =
-      ap (λ (y : ℕ). (live f reading y).number.0) same ∙ ap (λ (l : Live). l.number.0) is in
-      eqb-false r.sequence.0 (live f reading r.series).number.0 (recovers.free r in_gap) (sym number)
+  live_elsewhere t r a same is here = grind arith
 
   pub top_blanked : top f after ≡ top f reading
   top_blanked =

@@ -1,9 +1,9 @@
 -- What is known stays what is read, and the search for the gap carries each other series once at most.
-use Rattle.std.proofs.Common.{◌≡◌, ℕ, zero, suc, ◌+◌, ◌<◌, ◌≤◌, Bool, true, false, cond, not, ◌&&◌, eqb, ltb, leb, ◌≢◌, List, [], ◌∷◌, length, get_or, set, Some, None, Option, sym, refl, ap, ◌∙◌, subst, ⊎_elim, arith}
-use Rattle.std.proofs.lemmas.List.FromFn.{get_or-map-range_with_len, length-map-range_with_len}
-use Rattle.std.proofs.lemmas.List.{get_or-set_same, get_or-set_other, length-set, same_lists}
+use Rattle.std.proofs.Common.{◌≡◌, ℕ, zero, suc, ◌+◌, ◌<◌, ◌≤◌, true, false, not, ◌&&◌, eqb, ltb, leb, ◌≢◌, List, [], ◌∷◌, length, get_or, set, Some, None, sym, refl, ap, ◌∙◌, subst, ⊎_elim, arith}
+use Rattle.std.proofs.lemmas.List.FromFn.{get_or-map-range_with_len, length-map-range_with_len, fill_by_all}
+use Rattle.std.proofs.lemmas.List.{get_or-set_same, get_or-set_other, length-set}
 use Rattle.std.proofs.Math.Bool.{and-true}
-use Rattle.std.proofs.lemmas.Bool.{cases_eq, cases_Bool, eq-eqb, ne_eqb, eqb-true, eqb-false, le-leb, lt-leb, lt-ltb}
+use Rattle.std.proofs.lemmas.Bool.{cases_eq, cases_Bool, eq-eqb, ne_eqb, le-leb, lt-leb, lt-ltb}
 use Rattle.record.specs.Sector.{content, encoded}
 use Rattle.record.specs.declared.sector.Content.{Content}
 use Rattle.record.specs.declared.sector.Content.TheVariants.{Blank, Foreign, Record as Holds}
@@ -25,27 +25,21 @@ module _ (f : Format) (reading : List (List ℕ)) (sized : Sized f reading) (s e
 
   lives_written : Free f reading → set (known f reading).lives s (live_of new) ≡ (known f (with_record f reading new)).lives
   lives_written free =
+      let after = live f (with_record f reading new) in
+      let lives = (known f reading).lives in
       let n = length-map-range_with_len (live f reading) 0 8 in
-      let m = length-map-range_with_len (live f (with_record f reading new)) 0 8 in
-      let len = length-set (known f reading).lives s (live_of new) in
-      same_lists _ _ (omega arith)
-      (λ k d h.
-      let here : get_or (known f (with_record f reading new)).lives k d ≡ live f (with_record f reading new) k =
-      get_or-map-range_with_len (live f (with_record f reading new)) 0 8 k k d (omega arith) (omega arith) in
-      let old : get_or (known f reading).lives k d ≡ live f reading k =
-      get_or-map-range_with_len (live f reading) 0 8 k k d (omega arith) (omega arith) in
+      fill_by_all after (set lives s (live_of new)) 8 none (length-set lives s (live_of new) ∙ n)
+      (λ k h.
       ⊎_elim
       (λ same.
-      ap (λ (j : ℕ). get_or (set (known f reading).lives s (live_of new)) j d) same
-      ∙ get_or-set_same (known f reading).lives s (live_of new) d (omega (arith, w.series))
+      ap (λ (j : ℕ). get_or (set lives s (live_of new)) j none) same
+      ∙ get_or-set_same lives s (live_of new) none (omega (arith, w.series))
       ∙ sym (live_written f reading sized s end w)
-      ∙ ap (live f (with_record f reading new)) (sym same)
-      ∙ sym here)
+      ∙ ap after (sym same))
       (λ ne.
-      get_or-set_other (known f reading).lives s k (live_of new) d ne
-      ∙ old
-      ∙ sym (live_other f reading sized s end w free k ne)
-      ∙ sym here)
+      get_or-set_other lives s k (live_of new) none ne
+      ∙ knows_live f reading k h
+      ∙ sym (live_other f reading sized s end w free k ne))
       (cases_eq k s))
 
   pub known_written : Free f reading → noted (known f reading) new ≡ known f (with_record f reading new)
@@ -88,32 +82,11 @@ module _ (f : Format) (reading : List (List ℕ)) (sized : Sized f reading) (s s
 pub carried_is :
     (f : Format) (reading : List (List ℕ)) (s : ℕ) (r : Record) → carried f reading s ≡ Some r →
     (slot f reading (beyond f reading) ≡ Some r) × (r.series ≢ s) × (r.sequence.0 ≡ (live f reading r.series).number.0)
-carried_is f reading s r e = from_slot (slot f reading (beyond f reading)) refl e
-  where
-    tests : (q : Record) (a b : Bool) → cond (not a && b) (Some q) None ≡ Some r → (q ≡ r) × (a ≡ false) × (b ≡ true)
-    tests q a b h = grind arith
-
-    from_slot :
-        (x : Option Record) → slot f reading (beyond f reading) ≡ x → to_carry f reading s x ≡ Some r →
-        (slot f reading (beyond f reading) ≡ Some r) × (r.series ≢ s) × (r.sequence.0 ≡ (live f reading r.series).number.0)
-    from_slot None at-beyond h = absurd cc
-    from_slot (Some q) at-beyond h =
-        let t = tests q (eqb q.series s) (is_live f reading q) h in
-        subst
-        (λ (o : Record). (slot f reading (beyond f reading) ≡ Some o) × (o.series ≢ s) × (o.sequence.0 ≡ (live f reading o.series).number.0))
-        t.0
-        (at-beyond, eqb-false q.series s t.1, eqb-true _ _ t.2)
+carried_is f reading s r e = grind arith
 
 -- and where nothing is, the sector after the gap is clear
 pub clear_from : (f : Format) (reading : List (List ℕ)) (s : ℕ) → carried f reading s ≡ None → Clear f reading s
-clear_from f reading s e q at-beyond ne =
-    let there : to_carry f reading s (Some q) ≡ None = ap (to_carry f reading s) (sym at-beyond) ∙ e in
-    let other : eqb q.series s ≡ false = ne_eqb q.series s ne in
-    last_test (is_live f reading q) (rw other at there)
-  where
-    last_test : (b : Bool) → cond b (Some q) None ≡ None → b ≡ false
-    last_test true h = absurd cc
-    last_test false h = refl
+clear_from f reading s e q at-beyond ne = grind arith
 
 -- how many are left to carry
 left_at_most : (start s i : ℕ) (lives : List Live) → left start s i lives ≤ length lives

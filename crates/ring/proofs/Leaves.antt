@@ -31,8 +31,7 @@ topped_kept f m most kept low =
     record { now = low; cut = λ left supply c. omega (arith, ap (top f) (cut_at_rest m left supply kept c)) }
 
 topped_up : (f : Format) (after : Meaning) (a b : ℕ) → a ≤ b → Topped f after a → Topped f after b
-topped_up f after a b low t =
-    record { now = omega (arith, t.now); cut = λ left supply c. omega (arith, t.cut left supply c) }
+topped_up f after a b low t = grind arith
 
 -- one record written: the sectors recover, with the record's end for its series
 module _ (f : Format) (reading : List (List ℕ)) (recovers : Recovers f reading) (s end : ℕ) (w : Writable f reading s end) (clear : Clear f reading s) where
@@ -116,20 +115,7 @@ first_of_steps :
     (f : Format) (m after : Meaning) (step : Step) (steps : List Step) (p : ℕ) → Went m (performed f (step ∷ steps) p) after →
     ((p ≡ 0) × (after ≡ m)) ⊎ (((p ≡ 1) × Wrote m step.sector (encoded f.tag step.entry) after) ⊎ Done f m after step steps p)
 unfolding performed
-first_of_steps f m after step steps zero went = inl (refl, went)
-first_of_steps f m after step steps (suc zero) went =
-    inr (inl (refl, subst (λ (x : Meaning). Wrote m step.sector (encoded f.tag step.entry) x) (sym went.2) went.1))
-first_of_steps f m after step steps (suc (suc p)) went =
-    inr (inr
-    (record {
-      rest = p;
-      spent = refl;
-      first = went.0;
-      second = went.2.0;
-      wrote = went.1;
-      flushed = went.2.1;
-      done = went.2.2;
-    }))
+first_of_steps f m after step steps p went = grind arith
 
 -- the top record after the first of several writes, by what it is once that is done
 first_tops :
@@ -182,11 +168,7 @@ rest_from :
     (f : Format) (s end n : ℕ) (m after : Meaning) (q : Record)
     (d : Done f m after (carrying f m.reading q) (plan f n s end (with_record f m.reading (next f m.reading q.series q.end.0))) m.supply) →
     Went d.second (performed f (plan f n s end d.second.reading) d.second.supply) after
-rest_from f s end n m after q d =
-    let reads : d.second.reading ≡ with_record f m.reading (next f m.reading q.series q.end.0) = d.flushed.reads ∙ d.wrote.reads in
-    let p : d.rest ≡ d.second.supply = omega (arith, d.spent, d.wrote.spends, d.flushed.spends) in
-    subst (λ (k : ℕ). Went d.second (performed f (plan f n s end d.second.reading) k) after) p
-    (subst (λ (xs : List (List ℕ)). Went d.second (performed f (plan f n s end xs) d.rest) after) (sym reads) d.done)
+rest_from f s end n m after q d = grind arith
 
 carry_ends : (f : Format) (reading : List (List ℕ)) (recovers : Recovers f reading) (s : ℕ) (q : Record) → carried f reading s ≡ Some q → Writable f reading q.series q.end.0 → (t : ℕ) → end_of f (with_record f reading (next f reading q.series q.end.0)) t ≡ end_of f reading t
 carry_ends f reading recovers s q e w t =
@@ -219,11 +201,14 @@ module _ (f : Format) (s end start : ℕ) (series : s < 8) (some : 1 ≤ end) (u
     tops : top f reading < top f after
     most : top f after ≤ start + 8
 
-  as_is : (n : ℕ) (m left : Meaning) (supply : ℕ) → State n m → Cut m supply left → Leaves m.reading left.reading
-  as_is n m left supply state cut =
-      let same = cut_at_rest m left supply state.kept cut in
+  -- nothing is changed
+  stays : (n : ℕ) (m : Meaning) (after : List (List ℕ)) → State n m → after ≡ m.reading → Leaves m.reading after
+  stays n m after state same =
       subst (Leaves m.reading) (sym same)
       (record { recovers = state.recovers; ends = λ t. inl refl; tops = omega arith; most = omega (arith, state.few) })
+
+  as_is : (n : ℕ) (m left : Meaning) (supply : ℕ) → State n m → Cut m supply left → Leaves m.reading left.reading
+  as_is n m left supply state cut = stays n m left.reading state (cut_at_rest m left supply state.kept cut)
 
   last_writable : (n : ℕ) (m : Meaning) → State n m → Writable f m.reading s end
   last_writable n m state = record { series = series; numbered = omega (arith, state.few); some = some; ends = upper }
@@ -242,8 +227,7 @@ module _ (f : Format) (s end start : ℕ) (series : s < 8) (some : 1 ≤ end) (u
       }
 
   blank_leaves : (n : ℕ) (m : Meaning) (state : State n m) (after : List (List ℕ)) → Recovers f after × (top f after ≡ top f m.reading) × ((t : ℕ) → end_of f after t ≡ end_of f m.reading t) → Leaves m.reading after
-  blank_leaves n m state after h =
-      record { recovers = h.0; ends = λ t. inl (h.2 t); tops = omega (arith, h.1); most = omega (arith, h.1, state.few) }
+  blank_leaves n m state after h = grind arith
 
   reserving-leaves :
       (n : ℕ) (m after left : Meaning) (supply p : ℕ) → State n m → carried f m.reading s ≡ None → m.supply ≡ p →
@@ -254,7 +238,7 @@ module _ (f : Format) (s end start : ℕ) (series : s < 8) (some : 1 ≤ end) (u
   reserving-leaves n m after left supply (suc zero) state e is went cut =
       let wrote : Wrote m (gap f m.reading) (encoded f.tag (next f m.reading s end)) after = subst (λ (x : Meaning). Wrote m (gap f m.reading) (encoded f.tag (next f m.reading s end)) x) (sym went.2) went.1 in
       ⊎_elim
-      (λ same. subst (Leaves m.reading) (sym same) (record { recovers = state.recovers; ends = λ t. inl refl; tops = omega arith; most = omega (arith, state.few) }))
+      (stays n m left.reading state)
       (⊎_elim
       (λ same. subst (Leaves m.reading) (sym same) (written-leaves n m state e))
       (λ h. blank_leaves n m state left.reading h))
@@ -327,7 +311,7 @@ module _ (f : Format) (s end start : ℕ) (series : s < 8) (some : 1 ≤ end) (u
       let c = carry_clear f m.reading s q e in
       let t = top-written f m.reading state.recovers.sized q.series q.end.0 w in
       ⊎_elim
-      (λ same. subst (Leaves m.reading) (sym same) (record { recovers = state.recovers; ends = λ t. inl refl; tops = omega arith; most = omega (arith, state.few) }))
+      (stays (suc n) m left.reading state)
       (⊎_elim
       (λ same.
       subst (Leaves m.reading) (sym same)

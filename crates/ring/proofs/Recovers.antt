@@ -21,8 +21,7 @@ top_low f reading =
     ⊎_elim (λ z. omega arith) (λ h. omega (arith, h.2, (placed f reading h.1.at_sector h.0 h.1.holds).last)) (top-held f reading)
 
 scan_tells : (f : Format) (reading : List (List ℕ)) (x : Option ℕ) (k : Known) → Ok k ≡ scanned f reading x → (x ≡ None) × (k ≡ known f reading)
-scan_tells f reading None k e = (refl, cc)
-scan_tells f reading (Some i) k e = absurd cc
+scan_tells f reading x k e = grind arith
 
 -- none foreign below
 first-none : (x : Option ℕ) (b : Bool) (n : ℕ) → first_of x (cond b (Some n) None) ≡ None → (x ≡ None) × (b ≡ false)

@@ -1,6 +1,6 @@
 -- A reservation from the end of its search: written and flushed, or stopped at one of the two.
-use Rattle.std.proofs.Common.{◌≡◌, ℕ, suc, ◌+◌, ◌-◌, ◌^◌, ◌<◌, ◌≤◌, Bool, true, cond, ◌&&◌, ltb, leb, List, [], ◌∷◌, length, Some, None, Ok, Err, Option, Result, MatchResult, sym, refl, ap, ◌∙◌, subst, arith}
-use Rattle.std.proofs.lemmas.Bool.{and_parts, ltb-true, leb-true}
+use Rattle.std.proofs.Common.{◌≡◌, ℕ, suc, ◌+◌, ◌^◌, ◌<◌, ◌≤◌, List, [], ◌∷◌, None, Ok, Err, Option, Result, MatchResult, sym, refl, ap, ◌∙◌, subst, arith}
+use Rattle.std.proofs.lemmas.Grind.{common_steps}
 use Rattle.record.specs.Sector.{encoded}
 use Rattle.record.specs.declared.numbers.Rank.{Rank}
 use Rattle.record.specs.declared.sector.Format.{Format}
@@ -15,7 +15,7 @@ use Rattle.ring.specs.Token.{confirmed}
 use Rattle.ring.specs.Faults.{with_work}
 use Rattle.ring.specs.declared.fault.Interrupted.{Interrupted as Stop}
 use Rattle.ring.specs.declared.fault.RingFault.{RingFault}
-use Rattle.ring.specs.declared.fault.RingFault.TheVariants.{Interrupted, Series, End, Exhausted}
+use Rattle.ring.specs.declared.fault.RingFault.TheVariants.{Interrupted}
 use Rattle.ring.specs.declared.fault.Work.{Work}
 use Rattle.ring.specs.declared.fault.Work.TheVariants.{Reservation}
 use Rattle.ring.specs.declared.ring.Ring.{Ring}
@@ -23,11 +23,11 @@ use Rattle.ring.specs.declared.token.Reserved.{Reserved}
 use Rattle.ring.specs.declared.token.Unconfirmed.{Unconfirmed}
 use Rattle.ring.specs.declared.token.Written.{Written}
 use Rattle.ring.proofs.Knows.{clear_from}
-use Rattle.ring.proofs.Searches.{knows_gap, knows_next, reads_written, agrees_written, same_format, agrees_reading, told-dark}
-use Rattle.ring.proofs.Writes.{Clear, Writable, gap_lies, same_length}
+use Rattle.ring.proofs.Searches.{knows_gap, agrees_written, same_format, agrees_reading, told-dark}
+use Rattle.ring.proofs.Writes.{Clear, Writable}
 
 pub may_search : (r : Ring) (m : Meaning) (s : ℕ) (end : Rank) → MayReserve r m s end → MaySearch r m s
-may_search r m s end may = record { agrees = may.agrees; series = may.series; numbers = may.numbers }
+may_search r m s end may = grind arith
 
 -- from a search that has ended
 module _ (s : ℕ) (end : Rank) (whole : Meaning) (r : Ring) (m : Meaning) (cleared : Cleared r.format s whole r m) (series : s < 8) (numbers : top r.format whole.reading + 8 < 2 ^ 62) (some : 1 ≤ end.0) (ends : end.0 ≤ r.format.top.0 + 1) where
@@ -54,38 +54,17 @@ module _ (s : ℕ) (end : Rank) (whole : Meaning) (r : Ring) (m : Meaning) (clea
       (fault : DiskFault) → answer_of Write m (known_gap r) ≡ Err fault →
       Ended r.format s end whole (Err (Interrupted (record { work = Reservation s; fault = fault }))) r m
   unfolding outcome performed
-  ended_at_write fault answer =
-      let g = knows_gap r m cleared.agrees low in
-      let told = told-dark Write m (gap r.format m.reading) fault (gap_lies r.format m.reading cleared.agrees.sized) (rw g at answer) in
-      record {
-        agrees = cleared.agrees;
-        format = refl;
-        answers =
-            cleared.rest.answers value end.0
-            ∙ ap (outcome value (last ∷ [])) told.0
-            ∙ ap (λ (x : DiskFault). Err (Interrupted (record { work = Reservation s; fault = x }))) (sym told.1);
-        goes =
-            cleared.rest.goes end.0 m
-            (subst (λ (ops : List Op). Went m ops m) (sym (ap (performed r.format (last ∷ [])) told.0)) refl);
-      }
+  ended_at_write fault answer = grind arith
 
   module _ (r' : Ring) (m' : Meaning) (writes : Writes r m s end r' m') where
     there : Agrees r' m'
     there = agrees_written r m cleared.agrees low s end r' m' writable clear writes
 
     put_there : Wrote m (gap r.format m.reading) (encoded r.format.tag new) m'
-    put_there =
-        subst (λ (g : ℕ). Wrote m g (encoded r.format.tag new) m') (knows_gap r m cleared.agrees low)
-        (subst (λ (o : Record). Wrote m (known_gap r) (encoded r.format.tag o) m') (knows_next r m cleared.agrees low s end) writes.0)
+    put_there = grind arith
 
     gap_there : gap r.format m.reading < count m'
-    gap_there =
-        omega (
-          arith,
-          gap_lies r.format m.reading cleared.agrees.sized,
-          ap length (reads_written r m cleared.agrees low s end r' m' writable clear writes),
-          same_length r.format m.reading cleared.agrees.sized s end.0 writable,
-        )
+    gap_there = grind (arith, common_steps)
 
     -- the current fails at the flush
     pub ended_at_flush :
@@ -125,14 +104,7 @@ module _ (s : ℕ) (end : Rank) (whole : Meaning) (r : Ring) (m : Meaning) (clea
 
 -- a denial that came with its work
 pub work_and_fault : (work : Work) (answer : Result (Unit {0}) DiskFault) (x : Stop) → Err x ≡ with_work work answer → (x ≡ record { work = work; fault = x.fault }) × (answer ≡ Err x.fault)
-work_and_fault work (Ok done) x e = absurd cc
-work_and_fault work (Err fault) x e =
-    let same : x ≡ record { work = work; fault = fault } = cc in
-    let told : x.fault ≡ fault = ap (λ (y : Stop). y.fault) same in
-    (same ∙ ap (λ (y : DiskFault). record_stop work y) (sym told), ap Err (sym told))
-  where
-    record_stop : Work → DiskFault → Stop
-    record_stop w y = record { work = w; fault = y }
+work_and_fault work answer x e = grind arith
 
 -- the same by the format that the search began with
 module _ (f : Format) (s : ℕ) (end : Rank) (whole : Meaning) (r : Ring) (m : Meaning) (cleared : Cleared f s whole r m) (series : s < 8) (numbers : top f whole.reading + 8 < 2 ^ 62) (some : 1 ≤ end.0) (ends : end.0 ≤ f.top.0 + 1) where
@@ -172,33 +144,17 @@ module _ (f : Format) (s : ℕ) (end : Rank) (whole : Meaning) (r : Ring) (m : M
 
 -- what `map_err` passed on, or made its denial of
 pub passed_on : {A E : Type 0} (D : Type 0) (x : Result A E) (a : A) → MatchResult x (λ y. ◌≡◌ {A = Result A D} (Ok a) (Ok y)) (λ _. ⊥) → x ≡ Ok a
-passed_on D (Ok y) a h = cc
-passed_on D (Err e) a h = absurd h
+passed_on D x a h = grind arith
 
 pub made_of : {A E D : Type 0} (x : Result A E) (d : D) (Q : E → Type 0) → MatchResult x (λ y. ◌≡◌ {A = Result A D} (Err d) (Ok y)) Q → (e : E) × (x ≡ Err e) × Q e
-made_of (Ok y) d Q h = absurd cc
-made_of (Err e) d Q h = (e, refl, h)
+made_of x d Q h = grind arith
 
 -- what was admitted was not refused
 pub is_admitted : {A : Type 0} (x : Option RingFault) (asked a : A) → Ok a ≡ admitted asked x → (x ≡ None) × (a ≡ asked)
-is_admitted None asked a e = (refl, cc)
-is_admitted (Some fault) asked a e = absurd cc
-
-refusal_tests : (a b c : Bool) (x y z : RingFault) → cond a (cond b (cond c None (Some x)) (Some y)) (Some z) ≡ None → (a ≡ true) × (b ≡ true) × (c ≡ true)
-refusal_tests a b c x y z e = grind arith
+is_admitted x asked a e = grind arith
 
 pub may_from : (r : Ring) (m : Meaning) (s : ℕ) (end : Rank) → Agrees r m → refusal r.format r.known.top.0 s end ≡ None → MayReserve r m s end
-may_from r m s end agrees none =
-    let t = refusal_tests (ltb s 8) (ltb 0 end.0 && leb end.0 (r.format.top.0 + 1)) (leb (r.known.top.0 + 8) (2 ^ 62 - 1)) Exhausted (End end) (Series s) none in
-    let b = and_parts (ltb 0 end.0) (leb end.0 (r.format.top.0 + 1)) t.1 in
-    let known : r.known.top.0 ≡ top r.format m.reading = ap (λ k. k.top.0) agrees.knows in
-    record {
-      agrees = agrees;
-      series = ltb-true s 8 t.0;
-      numbers = omega (arith, leb-true _ _ t.2);
-      some = ltb-true 0 end.0 b.0;
-      ends = leb-true _ _ b.1;
-    }
+may_from r m s end agrees none = grind arith
 
 -- the flush of a reservation that was written
 module _ (r : Ring) (s : ℕ) (end : Rank) (whole : Meaning) (may : MayReserve r whole s end) (w : Written) (r' : Ring) (m' : Meaning) (begun : Begun r.format s end whole w r' m') where
@@ -206,14 +162,10 @@ module _ (r : Ring) (s : ℕ) (end : Rank) (whole : Meaning) (may : MayReserve r
   sector_is = ap (λ (x : Written). x.sector) begun.token
 
   confirmed_well : (answer : Result (Unit {0}) DiskFault) (reserved : Reserved) → Ok reserved ≡ confirmed w answer → reserved ≡ record { series = w.claim.series; end = w.claim.end }
-  confirmed_well (Ok done) reserved e = cc
-  confirmed_well (Err fault) reserved e = absurd cc
+  confirmed_well answer reserved e = grind arith
 
   confirmed_ill : (answer : Result (Unit {0}) DiskFault) (u : Unconfirmed) → Err u ≡ confirmed w answer → (answer ≡ Err u.fault) × (u.written ≡ w)
-  confirmed_ill (Ok done) u e = absurd cc
-  confirmed_ill (Err fault) u e =
-      let same : u ≡ record { written = w; fault = fault } = cc in
-      (ap Err (sym (ap (λ (x : Unconfirmed). x.fault) same)), ap (λ (x : Unconfirmed). x.written) same)
+  confirmed_ill answer u e = grind arith
 
   pub confirm_done :
       (reserved : Reserved) (m'' : Meaning) → Ok reserved ≡ confirmed w (answer_of Flush m' w.sector) → Flushed m' m'' →

@@ -1,16 +1,16 @@
 -- One sector more in the pass over all of them.
-use Rattle.std.proofs.Common.{◌≡◌, ℕ, zero, suc, ◌+◌, ◌-◌, ◌<◌, max, false, List, [], ◌∷◌, map, length, get_or, Some, None, Ok, Err, Option, sym, refl, ap, ◌∙◌, ⊎_elim, add-one, arith}
+use Rattle.std.proofs.Common.{◌≡◌, ℕ, zero, suc, ◌+◌, ◌-◌, ◌<◌, max, false, List, [], ◌∷◌, map, length, get_or, set, Some, None, Ok, Err, sym, refl, ap, ◌∙◌, ⊎_elim, add-one, arith}
 use Rattle.std.specs.List.{range_with_len}
-use Rattle.std.proofs.lemmas.List.FromFn.{get_or-map-range_with_len, length-map-range_with_len}
-use Rattle.std.proofs.lemmas.List.{get_or-set_same, get_or-set_other, length-set, same_lists}
-use Rattle.std.proofs.lemmas.Bool.{cases_eq, eq-eqb, ne_eqb, le-ltb, lt-ltb}
+use Rattle.std.proofs.lemmas.List.FromFn.{get_or-map-range_with_len, length-map-range_with_len, fill_by_all}
+use Rattle.std.proofs.lemmas.List.{get_or-set_same, get_or-set_other, length-set}
+use Rattle.std.proofs.lemmas.Bool.{cases_eq, eq-eqb, ne_eqb}
 use Rattle.record.specs.Sector.{content}
 use Rattle.record.specs.declared.sector.Content.{Content}
 use Rattle.record.specs.declared.sector.Content.TheVariants.{Blank, Foreign, Record as Holds}
 use Rattle.record.specs.declared.sector.Format.{Format}
 use Rattle.record.specs.declared.sector.Record.{Record}
 use Rattle.disk.specs.Meaning.{at, found}
-use Rattle.ring.specs.Ring.{record_in, slot, number_in, top_below, top, none, live_of, live_in, newer, live_below, live, known, met, is_foreign, foreign_below, scanned}
+use Rattle.ring.specs.Ring.{record_in, slot, number_in, top_below, top, none, live_of, live_in, newer, live_below, live, met, is_foreign, foreign_below, scanned}
 use Rattle.ring.specs.declared.fault.RingFault.TheVariants.{Foreign as Foreign'}
 use Rattle.ring.specs.declared.known.Known.{Known}
 use Rattle.ring.specs.declared.known.Live.{Live}
@@ -26,16 +26,16 @@ known_below f reading n =
 
 -- a read of a sector that is there
 pub found_at : (reading : List (List ℕ)) (i : ℕ) (bytes : List ℕ) → i < length reading → Ok bytes ≡ found reading i → bytes ≡ at reading i
-found_at reading i bytes l e = let here = rw (lt-ltb i (length reading) l) at e in cc
+found_at reading i bytes l e = grind arith
 
 abbrev knowing : ℕ → List Live → Known
 knowing t lives = record { top = record { 0 = t }; lives = lives }
 
 same_known : (a b : ℕ) (x y : List Live) → a ≡ b → x ≡ y → knowing a x ≡ knowing b y
-same_known a b x y p q = ap (λ (t : ℕ). knowing t x) p ∙ ap (knowing b) q
+same_known a b x y p q = grind arith
 
 newer-none : (a b : Live) → b.number.0 ≡ 0 → newer a b ≡ a
-newer-none a b z = rw (le-ltb a.number.0 b.number.0 (omega arith)) refl
+newer-none a b z = grind arith
 
 lives_below_length : (f : Format) (reading : List (List ℕ)) (n : ℕ) → length (known_below f reading n).lives ≡ 8
 lives_below_length f reading n = length-map-range_with_len (λ s. live_below f reading s n) 0 8
@@ -45,12 +45,12 @@ module _ (f : Format) (reading : List (List ℕ)) (n : ℕ) where
   unfolding slot
   slot_blank e = ap record_in e
 
-  lives_more : (d : Live) (k : ℕ) → k < 8 → get_or (known_below f reading (suc n)).lives k d ≡ newer (live_below f reading k n) (live_in k (slot f reading n))
+  live_more : (k : ℕ) → live_below f reading k (suc n) ≡ newer (live_below f reading k n) (live_in k (slot f reading n))
   unfolding live_below
-  lives_more d k l = get_or-map-range_with_len (λ s. live_below f reading s (suc n)) 0 8 k k d l (omega arith)
+  live_more k = refl
 
-  lives_so_far : (d : Live) (k : ℕ) → k < 8 → get_or (known_below f reading n).lives k d ≡ live_below f reading k n
-  lives_so_far d k l = get_or-map-range_with_len (λ s. live_below f reading s n) 0 8 k k d l (omega arith)
+  lives_so_far : (k : ℕ) → k < 8 → get_or (known_below f reading n).lives k none ≡ live_below f reading k n
+  lives_so_far k l = get_or-map-range_with_len (λ s. live_below f reading s n) 0 8 k k none l (omega arith)
 
   top_more : top_below f reading (suc n) ≡ max (top_below f reading n) (number_in (slot f reading n))
   unfolding top_below
@@ -60,56 +60,48 @@ module _ (f : Format) (reading : List (List ℕ)) (n : ℕ) where
   pub known_blank : content f n (at reading n) ≡ Blank → known_below f reading (suc n) ≡ known_below f reading n
   known_blank e =
       let s = slot_blank e in
-      let t : top_below f reading (suc n) ≡ top_below f reading n = top_more ∙ ap (λ (x : Option Record). max (top_below f reading n) (number_in x)) s ∙ omega arith in
-      let a = lives_below_length f reading (suc n) in
-      let b = lives_below_length f reading n in
-      let l : (known_below f reading (suc n)).lives ≡ (known_below f reading n).lives =
-      same_lists _ _ (a ∙ sym b)
-      (λ k d h.
-      lives_more d k (omega arith)
-      ∙ ap (λ (x : Option Record). newer (live_below f reading k n) (live_in k x)) s
-      ∙ newer-none (live_below f reading k n) none refl
-      ∙ sym (lives_so_far d k (omega arith))) in
-      same_known _ _ _ _ t l
+      let t : top_below f reading (suc n) ≡ top_below f reading n = rw (top_more, s) (omega arith) in
+      let l =
+      fill_by_all (λ k. live_below f reading k (suc n)) (known_below f reading n).lives 8 none (lives_below_length f reading n)
+      (λ k h. rw (live_more k, s) (lives_so_far k h ∙ sym (newer-none (live_below f reading k n) none refl))) in
+      same_known _ _ _ _ t (sym l)
 
   -- a record is met
   pub known_record : (r : Record) → content f n (at reading n) ≡ Holds r → known_below f reading (suc n) ≡ met (known_below f reading n) r
   known_record r e =
       let s = slot-holds f reading n r e in
       let p = placed f reading n r s in
-      let t : top_below f reading (suc n) ≡ max (top_below f reading n) r.sequence.0 = top_more ∙ ap (λ (x : Option Record). max (top_below f reading n) (number_in x)) s in
-      let a = lives_below_length f reading (suc n) in
-      let b = lives_below_length f reading n in
-      let len = length-set (known_below f reading n).lives r.series (newer (get_or (known_below f reading n).lives r.series none) (live_of r)) in
-      let old = lives_so_far none r.series p.series in
-      let l : (known_below f reading (suc n)).lives ≡ (met (known_below f reading n) r).lives =
-      same_lists _ _ (a ∙ sym (len ∙ b))
-      (λ k d h.
-      lives_more d k (omega arith)
-      ∙ ap (λ (x : Option Record). newer (live_below f reading k n) (live_in k x)) s
-      ∙ ⊎_elim
+      let lives = (known_below f reading n).lives in
+      let newest = newer (get_or lives r.series none) (live_of r) in
+      let t : top_below f reading (suc n) ≡ max (top_below f reading n) r.sequence.0 = rw (top_more, s) refl in
+      let len = lives_below_length f reading n in
+      let l =
+      fill_by_all (λ k. live_below f reading k (suc n)) (set lives r.series newest) 8 none (length-set lives r.series newest ∙ len)
+      (λ k h.
+      rw (live_more k, s)
+      (⊎_elim
       (λ same.
       rw (eq-eqb r.series k same)
-      (ap (λ (x : ℕ). newer (live_below f reading x n) (live_of r)) (sym same)
-      ∙ ap (λ (x : Live). newer x (live_of r)) (sym old)
-      ∙ sym (get_or-set_same (known_below f reading n).lives r.series (newer (get_or (known_below f reading n).lives r.series none) (live_of r)) d (omega (arith, p.series)))
-      ∙ ap (λ (x : ℕ). get_or (met (known_below f reading n) r).lives x d) same))
+      (ap (λ (j : ℕ). get_or (set lives r.series newest) j none) (sym same)
+      ∙ get_or-set_same lives r.series newest none (omega (arith, len, p.series))
+      ∙ ap (λ (x : Live). newer x (live_of r)) (lives_so_far r.series p.series)
+      ∙ ap (λ (j : ℕ). newer (live_below f reading j n) (live_of r)) same))
       (λ ne.
       rw (ne_eqb r.series k ne)
-      (newer-none (live_below f reading k n) none refl
-      ∙ sym (lives_so_far d k (omega arith))
-      ∙ sym (get_or-set_other (known_below f reading n).lives r.series k (newer (get_or (known_below f reading n).lives r.series none) (live_of r)) d (λ x. ne (sym x)))))
-      (cases_eq r.series k)) in
-      same_known _ _ _ _ t l
+      (get_or-set_other lives r.series k newest none (λ x. ne (sym x))
+      ∙ lives_so_far k h
+      ∙ sym (newer-none (live_below f reading k n) none refl)))
+      (cases_eq r.series k))) in
+      same_known _ _ _ _ t (sym l)
 
   -- none foreign so far
   pub foreign_none : (c : Content) → content f n (at reading n) ≡ c → is_foreign c ≡ false → foreign_below f reading n ≡ None → foreign_below f reading (suc n) ≡ None
   unfolding foreign_below
-  foreign_none c e native none_yet = rw (none_yet, e, native) refl
+  foreign_none c e native none_yet = grind arith
 
   pub foreign_here : content f n (at reading n) ≡ Foreign → foreign_below f reading n ≡ None → foreign_below f reading (suc n) ≡ Some n
   unfolding foreign_below
-  foreign_here e none_yet = rw (none_yet, e) refl
+  foreign_here e none_yet = grind arith
 
 -- the lowest foreign sector stays the lowest
 foreign_stays : (f : Format) (reading : List (List ℕ)) (i n k : ℕ) → foreign_below f reading n ≡ Some i → foreign_below f reading (n + k) ≡ Some i
@@ -161,8 +153,4 @@ module _ (f : Format) (reading : List (List ℕ)) (sectors n : ℕ) (all : secto
 
   pub scan_ends : (k : Known) → n ≡ sectors → (foreign_below f reading n ≡ None) × (k ≡ known_below f reading n) → Ok k ≡ scanned f reading (foreign_below f reading (length reading))
   unfolding top live
-  scan_ends k e inv =
-      let m : n ≡ length reading = e ∙ all in
-      let f_none : foreign_below f reading (length reading) ≡ None = ap (foreign_below f reading) (sym m) ∙ inv.0 in
-      let k_is : k ≡ known f reading = inv.1 ∙ ap (known_below f reading) m in
-      rw f_none (ap Ok k_is)
+  scan_ends k e inv = grind arith

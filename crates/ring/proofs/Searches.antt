@@ -1,7 +1,8 @@
 -- One turn of the search: a carry leads on, darkness stops it, and where nothing is to be carried it ends.
-use Rattle.std.proofs.Common.{◌≡◌, ℕ, zero, suc, ◌+◌, ◌-◌, ◌^◌, ◌<◌, min, false, cond, eqb, List, [], ◌∷◌, length, set, Some, None, Ok, Err, Result, sym, refl, ap, ◌∙◌, subst, arith}
+use Rattle.std.proofs.Common.{◌≡◌, ℕ, suc, ◌+◌, ◌-◌, ◌^◌, ◌<◌, cond, eqb, List, [], ◌∷◌, length, set, Some, None, Ok, Err, Result, sym, refl, ap, ◌∙◌, subst, arith}
+use Rattle.std.proofs.lemmas.Grind.{common_steps}
 use Rattle.std.proofs.lemmas.List.FromFn.{length-map-range_with_len}
-use Rattle.std.proofs.lemmas.Bool.{ne_eqb, lt-ltb}
+use Rattle.std.proofs.lemmas.Bool.{lt-ltb}
 use Rattle.record.specs.Sector.{encoded}
 use Rattle.record.specs.declared.numbers.Rank.{Rank}
 use Rattle.record.specs.declared.sector.Format.{Format}
@@ -12,7 +13,7 @@ use Rattle.disk.specs.declared.fault.DiskFault.{DiskFault}
 use Rattle.disk.specs.declared.fault.Operation.{Operation}
 use Rattle.disk.specs.declared.fault.Operation.TheVariants.{Write, Flush}
 use Rattle.ring.specs.Operations.{Op, put, settle, Went, performed, outcome, Writes}
-use Rattle.ring.specs.Ring.{top, live, gap, carried, next, with_record, known, live_of, known_gap, next_of, with_noted, reserving, carrying, first_then, plan, left, Agrees, Sized, Free, Native, Step}
+use Rattle.ring.specs.Ring.{top, live, gap, carried, next, with_record, known, live_of, known_gap, next_of, with_noted, reserving, carrying, first_then, plan, left, Agrees, Step}
 use Rattle.ring.specs.Search.{Searching, Cleared, Stopped, MaySearch}
 use Rattle.ring.specs.declared.fault.RingFault.TheVariants.{Interrupted}
 use Rattle.ring.specs.declared.fault.Work.TheVariants.{Carry}
@@ -20,13 +21,12 @@ use Rattle.ring.specs.declared.ring.Ring.{Ring}
 use Rattle.ring.specs.declared.token.Reserved.{Reserved}
 use Rattle.ring.proofs.Carries.{carry_fewer, carry_writable, carry_clear}
 use Rattle.ring.proofs.Knows.{known_written, native_written, left_seven}
-use Rattle.ring.proofs.Writes.{Clear, Writable, gap_lies, top-written, free_written, sized_written, same_length}
+use Rattle.ring.proofs.Writes.{Clear, Writable, top-written, free_written, sized_written}
 
 -- the plan, by whether something is to be carried
 pub plan-ends : (f : Format) (n s end : ℕ) (reading : List (List ℕ)) → carried f reading s ≡ None → plan f n s end reading ≡ reserving f reading s end ∷ []
 unfolding plan
-plan-ends f zero s end reading e = refl
-plan-ends f (suc n) s end reading e = ap (first_then f reading s end (λ r. plan f n s end (with_record f reading r))) e
+plan-ends f n s end reading e = grind arith
 
 pub plan_carries :
     (f : Format) (n s end : ℕ) (reading : List (List ℕ)) (r : Record) → carried f reading s ≡ Some r →
@@ -37,28 +37,16 @@ plan_carries f n s end reading r e = ap (first_then f reading s end (λ q. plan 
 
 -- the ring knows the gap and the next record
 module _ (r : Ring) (m : Meaning) (a : Agrees r m) (low : top r.format m.reading < 2 ^ 62) where
-  known-top : r.known.top.0 ≡ top r.format m.reading
-  known-top = ap (λ k. k.top.0) a.knows
-
   pub knows_gap : known_gap r ≡ gap r.format m.reading
-  knows_gap =
-      let some : eqb r.format.sectors 0 ≡ false = ne_eqb r.format.sectors 0 (λ e. omega (arith, a.sized.count, a.sized.least)) in
-      let number : min (r.known.top.0 + 1) (2 ^ 64 - 1) ≡ top r.format m.reading + 1 = omega (arith, known-top) in
-      rw (some, number, a.sized.count) refl
+  knows_gap = grind arith
 
   pub knows_next : (s : ℕ) (end : Rank) → next_of r s end ≡ next r.format m.reading s end.0
-  knows_next s end =
-      let number : min (r.known.top.0 + 1) (2 ^ 64 - 1) ≡ top r.format m.reading + 1 = omega (arith, known-top) in
-      rw number refl
+  knows_next s end = grind arith
 
   -- a record written where it may be: the ring agrees with the disk again
   module _ (s : ℕ) (end : Rank) (r' : Ring) (m' : Meaning) (w : Writable r.format m.reading s end.0) (clear : Clear r.format m.reading s) (writes : Writes r m s end r' m') where
     pub reads_written : m'.reading ≡ with_record r.format m.reading (next r.format m.reading s end.0)
-    reads_written =
-        let at_gap = knows_gap in
-        let new = knows_next s end in
-        let set_there = writes.0.reads in
-        set_there ∙ rw (at_gap, new) refl
+    reads_written = grind arith
 
     pub noted-written : r' ≡ with_noted r (next r.format m.reading s end.0)
     noted-written = writes.1 ∙ ap (with_noted r) (knows_next s end)
@@ -93,24 +81,14 @@ module _ (r : Ring) (m : Meaning) (a : Agrees r m) (low : top r.format m.reading
 
 -- agreement is about what is read
 pub agrees_reading : (r : Ring) (m m' : Meaning) → m'.reading ≡ m.reading → Agrees r m → Agrees r m'
-agrees_reading r m m' e a =
-    record {
-      sized = subst (Sized r.format) (sym e) a.sized;
-      knows = a.knows ∙ ap (known r.format) (sym e);
-      free = subst (Free r.format) (sym e) a.free;
-      native = subst (Native r.format) (sym e) a.native;
-    }
+agrees_reading r m m' e a = grind arith
 
 -- what a denial with the sector there tells
 abbrev supplied : Operation → ℕ → ℕ → Result (Unit {0}) DiskFault
 supplied operation i p = cond (eqb p 0) (Err (denied Dark operation i)) (Ok tt)
 
 by_supply : (operation : Operation) (i : ℕ) (fault : DiskFault) (p : ℕ) → supplied operation i p ≡ Err fault → (p ≡ 0) × (fault ≡ denied Dark operation i)
-by_supply operation i fault zero h = (refl, cc)
-by_supply operation i fault (suc p) h =
-    let some : eqb (suc p) 0 ≡ false = ne_eqb (suc p) 0 (λ e. omega arith) in
-    let ok = rw some at h in
-    absurd cc
+by_supply operation i fault p h = grind arith
 
 pub told-dark : (operation : Operation) (m : Meaning) (i : ℕ) (fault : DiskFault) → i < count m → answer_of operation m i ≡ Err fault → (m.supply ≡ 0) × (fault ≡ denied Dark operation i)
 told-dark operation m i fault l e = by_supply operation i fault m.supply (rw (lt-ltb i (count m) l) at e)
@@ -195,9 +173,7 @@ module _ (s : ℕ) (whole : Meaning) (r : Ring) (m : Meaning) (search : Searchin
           ∙ ap (plan r.format (top r.format whole.reading + 7 - top r.format m'.reading) s end) (sym done_reads)
 
       put_there : Wrote m (gap r.format m.reading) (encoded r.format.tag new) between
-      put_there =
-          subst (λ (g : ℕ). Wrote m g (encoded r.format.tag new) between) (knows_gap r m search.agrees low)
-          (subst (λ (o : Record). Wrote m (known_gap r) (encoded r.format.tag o) between) (knows_next r m search.agrees low q.series q.end) writes.0)
+      put_there = grind arith
 
       answers_on : (value : Reserved) (end : ℕ) → outcome value (plan r.format (top r.format whole.reading + 7 - top r.format m.reading) s end m.reading) m.supply ≡ outcome value (plan r.format (top r.format whole.reading + 7 - top r.format m'.reading) s end m'.reading) m'.supply
       unfolding outcome
@@ -234,9 +210,7 @@ module _ (s : ℕ) (whole : Meaning) (r : Ring) (m : Meaning) (search : Searchin
     -- the current fails at the write of the carry
     module _ (fault : DiskFault) (answer : answer_of Write m (known_gap r) ≡ Err fault) where
       at_write : (m.supply ≡ 0) × (fault ≡ denied Dark Write (gap r.format m.reading))
-      at_write =
-          let g = knows_gap r m search.agrees low in
-          told-dark Write m (gap r.format m.reading) fault (gap_lies r.format m.reading search.agrees.sized) (rw g at answer)
+      at_write = grind arith
 
       pub stops_at_write : Stopped r.format s whole (Interrupted (record { work = Carry q.series; fault = fault })) r m
       unfolding outcome performed
@@ -260,30 +234,17 @@ module _ (s : ℕ) (whole : Meaning) (r : Ring) (m : Meaning) (search : Searchin
 
     -- the current fails at its flush
     module _ (fault : DiskFault) (r' : Ring) (m' : Meaning) (writes : Writes r m q.series q.end r' m') (answer : answer_of Flush m' (known_gap r) ≡ Err fault) where
-      reads_now : m'.reading ≡ with_record r.format m.reading new
-      reads_now = reads_written r m search.agrees low q.series q.end r' m' writable clear writes
-
       gap_there : gap r.format m.reading < count m'
-      gap_there =
-          omega (
-            arith,
-            gap_lies r.format m.reading search.agrees.sized,
-            ap length reads_now,
-            same_length r.format m.reading search.agrees.sized q.series q.end.0 writable,
-          )
+      gap_there = grind (arith, common_steps)
 
       at_flush : (m'.supply ≡ 0) × (fault ≡ denied Dark Flush (gap r.format m.reading))
-      at_flush =
-          let g = knows_gap r m search.agrees low in
-          told-dark Flush m' (gap r.format m.reading) fault gap_there (rw g at answer)
+      at_flush = grind (arith, common_steps)
 
       last_one : m.supply ≡ 1
       last_one = omega (arith, writes.0.spends, at_flush.0)
 
       put_last : Wrote m (gap r.format m.reading) (encoded r.format.tag new) m'
-      put_last =
-          subst (λ (g : ℕ). Wrote m g (encoded r.format.tag new) m') (knows_gap r m search.agrees low)
-          (subst (λ (o : Record). Wrote m (known_gap r) (encoded r.format.tag o) m') (knows_next r m search.agrees low q.series q.end) writes.0)
+      put_last = grind arith
 
       pub stops_at_flush : Stopped r.format s whole (Interrupted (record { work = Carry q.series; fault = fault })) r' m'
       unfolding outcome performed

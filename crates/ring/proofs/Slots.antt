@@ -1,10 +1,9 @@
 -- What the sectors hold: records in their places, the top record, and the live ones.
-use Rattle.std.proofs.Common.{◌≡◌, ℕ, zero, suc, ◌+◌, ◌%◌, ◌^◌, ◌<◌, ◌≤◌, max, Bool, true, cond, eqb, ltb, ◌⊎◌, List, length, Some, None, Option, sym, refl, ap, ◌∙◌, subst, inl, inr, ⊎_elim, arith}
-use Rattle.std.proofs.lemmas.Bool.{and_parts, ltb-true, ltb-false, eqb-true, eq-eqb, cases_lt, cases_eq, cases_Bool}
-use Rattle.std.proofs.lemmas.Bool.Decides.{nat_tests}
-use Rattle.record.specs.Sector.{content, sound, parts, belongs, lawful}
+use Rattle.std.proofs.Common.{◌≡◌, ℕ, zero, suc, ◌+◌, ◌%◌, ◌^◌, ◌<◌, ◌≤◌, max, true, ◌⊎◌, List, length, Some, Option, sym, refl, ap, ◌∙◌, inl, inr, ⊎_elim, arith}
+use Rattle.std.proofs.lemmas.Bool.{cases_eq}
+use Rattle.record.specs.Sector.{content, lawful}
 use Rattle.record.specs.declared.sector.Content.{Content}
-use Rattle.record.specs.declared.sector.Content.TheVariants.{Blank, Foreign, Record as Holds}
+use Rattle.record.specs.declared.sector.Content.TheVariants.{Record as Holds}
 use Rattle.record.specs.declared.sector.Format.{Format}
 use Rattle.record.specs.declared.sector.Record.{Record}
 use Rattle.disk.specs.Meaning.{at}
@@ -22,42 +21,17 @@ pub record Placed (f : Format) (k : ℕ) (r : Record) : Type 0 where
   pub place : r.sequence.0 % f.sectors ≡ k
 
 pub placed_from : (f : Format) (k : ℕ) (r : Record) → lawful f k r ≡ true → Placed f k r
-placed_from f k r h =
-    record {
-      series = grind (arith, nat_tests);
-      first = grind (arith, nat_tests);
-      last = grind (arith, nat_tests);
-      some = grind (arith, nat_tests);
-      ends = grind (arith, nat_tests);
-      sectors = grind (arith, nat_tests);
-      place = grind (arith, nat_tests);
-    }
+placed_from f k r h = grind arith
 
 pub lawful_from : (f : Format) (k : ℕ) (r : Record) → Placed f k r → lawful f k r ≡ true
-lawful_from f k r p =
-    let a = p.series in
-    let b = p.first in
-    let c = p.last in
-    let d = p.some in
-    let e = p.ends in
-    let g = p.sectors in
-    let h = p.place in
-    grind (arith, nat_tests)
-
-holds_if : (a b : Bool) (p r : Record) → cond a (cond b (Holds p) Foreign) Blank ≡ Holds r → (b ≡ true) × (p ≡ r)
-holds_if a b p r e = grind arith
+lawful_from f k r p = grind arith
 
 content-lawful : (f : Format) (k : ℕ) (s : List ℕ) (r : Record) → content f k s ≡ Holds r → lawful f k r ≡ true
 unfolding content
-content-lawful f k s r e =
-    let h = holds_if (sound s) (belongs f k (parts s)) (parts s).«record» r e in
-    let l = and_parts (parts s).zeroed _ (and_parts (eqb (parts s).tag f.tag) _ h.0).1 in
-    subst (λ (q : Record). lawful f k q ≡ true) h.1 l.1
+content-lawful f k s r e = grind arith
 
 some_record : (c : Content) (r : Record) → record_in c ≡ Some r → c ≡ Holds r
-some_record Blank r e = absurd cc
-some_record Foreign r e = absurd cc
-some_record (Holds q) r e = cc
+some_record c r e = grind arith
 
 -- a record lies in the sector that its number names
 pub placed : (f : Format) (reading : List (List ℕ)) (k : ℕ) (r : Record) → slot f reading k ≡ Some r → Placed f k r
@@ -76,15 +50,15 @@ pub record Among (f : Format) (reading : List (List ℕ)) (n : ℕ) (r : Record)
   pub holds : slot f reading at_sector ≡ Some r
 
 among_more : (f : Format) (reading : List (List ℕ)) (n : ℕ) (r : Record) → Among f reading n r → Among f reading (suc n) r
-among_more f reading n r a = record { at_sector = a.at_sector; within = omega (arith, a.within); holds = a.holds }
+among_more f reading n r a = grind arith
 
 max_cases : (a b : ℕ) → ((max a b ≡ a) × (b ≤ a)) ⊎ ((max a b ≡ b) × (a < b))
-max_cases a b = ⊎_elim (λ l. inr (omega arith, l)) (λ l. inl (omega arith, l)) (cases_lt a b)
+max_cases a b = grind arith
 
 module _ (f : Format) (reading : List (List ℕ)) where
   top_step : (n : ℕ) → (top_below f reading n ≤ top_below f reading (suc n)) × (number_in (slot f reading n) ≤ top_below f reading (suc n))
   unfolding top_below
-  top_step n = (omega arith, omega arith)
+  top_step n = grind arith
 
   top_above_below : (n k : ℕ) (r : Record) → k < n → slot f reading k ≡ Some r → r.sequence.0 ≤ top_below f reading n
   top_above_below zero k r l e = absurd (omega arith)
@@ -99,8 +73,7 @@ module _ (f : Format) (reading : List (List ℕ)) where
   top_held_step :
       (n : ℕ) (x : Option Record) → slot f reading n ≡ x → top_below f reading n < number_in x →
       (r : Record) × Among f reading (suc n) r × (r.sequence.0 ≡ number_in x)
-  top_held_step n None e l = absurd (omega arith)
-  top_held_step n (Some r) e l = (r, record { at_sector = n; within = omega arith; holds = e }, refl)
+  top_held_step n x e l = grind arith
 
   top_held_below : (n : ℕ) → (top_below f reading n ≡ 0) ⊎ ((r : Record) × Among f reading n r × (r.sequence.0 ≡ top_below f reading n))
   unfolding top_below
@@ -117,14 +90,10 @@ module _ (f : Format) (reading : List (List ℕ)) where
       ((live_below f reading s n).number.0 ≤ (live_below f reading s (suc n)).number.0)
       × ((live_in s (slot f reading n)).number.0 ≤ (live_below f reading s (suc n)).number.0)
   unfolding live_below
-  live_step s n =
-      ⊎_elim
-      (λ e. let l = ltb-true _ _ e in (rw e (omega arith), rw e (omega arith)))
-      (λ e. let l = ltb-false _ _ e in (rw e (omega arith), rw e (omega arith)))
-      (cases_Bool (ltb (live_below f reading s n).number.0 (live_in s (slot f reading n)).number.0))
+  live_step s n = grind arith
 
   live_here : (s n : ℕ) (r : Record) → slot f reading n ≡ Some r → r.series ≡ s → live_in s (slot f reading n) ≡ live_of r
-  live_here s n r e same = rw (e, eq-eqb r.series s same) refl
+  live_here s n r e same = grind arith
 
   live_above_below :
       (s n k : ℕ) (r : Record) → k < n → slot f reading k ≡ Some r → r.series ≡ s → r.sequence.0 ≤ (live_below f reading s n).number.0
@@ -139,16 +108,10 @@ module _ (f : Format) (reading : List (List ℕ)) where
       (cases_eq k n)
 
   live_in_cases : (s n : ℕ) (x : Option Record) → slot f reading n ≡ x → (live_in s x ≡ none) ⊎ ((r : Record) × Among f reading (suc n) r × (r.series ≡ s) × (live_in s x ≡ live_of r))
-  live_in_cases s n None e = inl refl
-  live_in_cases s n (Some r) e =
-      ⊎_elim
-      (λ same. inr (r, record { at_sector = n; within = omega arith; holds = e }, eqb-true r.series s same, rw same refl))
-      (λ other. inl (rw other refl))
-      (cases_Bool (eqb r.series s))
+  live_in_cases s n x e = grind arith
 
   newer_cases : (a b : Live) → (newer a b ≡ a) ⊎ (newer a b ≡ b)
-  newer_cases a b =
-      ⊎_elim (λ e. inr (rw e refl)) (λ e. inl (rw e refl)) (cases_Bool (ltb a.number.0 b.number.0))
+  newer_cases a b = grind arith
 
   live_held_below :
       (s n : ℕ) →

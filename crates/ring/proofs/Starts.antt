@@ -1,6 +1,6 @@
 -- Where a ring starts: on a disk without records, and on sectors that recover.
 use Rattle.std.proofs.Common.{◌≡◌, ℕ, zero, suc, ◌^◌, ◌<◌, true, false, leb, List, length, Some, None, Ok, Option, sym, refl, ap, ◌∙◌, inl, arith}
-use Rattle.std.proofs.lemmas.Bool.{le-leb, lt-ltb}
+use Rattle.std.proofs.lemmas.Bool.{le-leb}
 use Rattle.record.specs.Sector.{content}
 use Rattle.record.specs.declared.sector.Format.{Format}
 use Rattle.record.specs.declared.sector.Record.{Record}
@@ -10,7 +10,6 @@ use Rattle.ring.specs.Ring.{record_in, slot, top, none, gap, known, known_end, i
 use Rattle.ring.specs.declared.known.Live.{Live}
 use Rattle.ring.specs.declared.ring.Ring.{Ring}
 use Rattle.ring.proofs.Cuts.{blank_from}
-use Rattle.ring.proofs.Knows.{knows_live}
 use Rattle.ring.proofs.Slots.{top_is, live_is}
 use Rattle.ring.proofs.Writes.{gap_lies}
 
@@ -49,8 +48,7 @@ none_foreign f reading (suc n) native =
 
 -- the gap by what it holds
 none-live : (f : Format) (reading : List (List ℕ)) → Recovers f reading → (x : Option Record) → slot f reading (gap f reading) ≡ x → holds_live f reading x ≡ false
-none-live f reading recovers None e = refl
-none-live f reading recovers (Some r) e = recovers.free r e
+none-live f reading recovers x e = grind arith
 
 -- sectors that recover: recovery answers the ring that knows them, and that ring agrees with the disk
 pub recovers_answer : (f : Format) (reading : List (List ℕ)) → Recovers f reading → recovered f reading ≡ Ok (record { format = f; known = known f reading })
@@ -63,8 +61,7 @@ recovers_answer f reading recovers =
     rw (least, most, native, free) refl
 
 pub recovers_agrees : (f : Format) (m : Meaning) → Recovers f m.reading → Agrees (record { format = f; known = known f m.reading }) m
-recovers_agrees f m recovers =
-    record { sized = recovers.sized; knows = refl; free = recovers.free; native = recovers.native }
+recovers_agrees f m recovers = grind arith
 
 -- a disk that a ring agrees with recovers
 pub agrees_recovers : (r : Ring) (m : Meaning) → Agrees r m → Recovers r.format m.reading
@@ -72,4 +69,4 @@ agrees_recovers r m agrees = record { sized = agrees.sized; free = agrees.free; 
 
 -- the end that a ring knows is the one that its sectors read
 pub known_end_is : (f : Format) (reading : List (List ℕ)) (s : ℕ) → s < 8 → (known_end (known f reading) s).0 ≡ end_of f reading s
-known_end_is f reading s l = rw (lt-ltb s 8 l) (ap (λ (x : Live). x.end.0) (knows_live f reading s l))
+known_end_is f reading s l = grind arith

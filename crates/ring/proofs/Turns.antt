@@ -1,10 +1,8 @@
 -- One turn of the code's loop, by what it looked at.
-use Rattle.std.proofs.Common.{◌≡◌, ℕ, ◌+◌, ◌^◌, ◌<◌, ◌≤◌, Bool, true, false, cond, not, ◌&&◌, eqb, ltb, leb, ◌≢◌, length, set, Some, None, Ok, Option, Result, sym, ap, ◌∙◌, subst, ⊎_elim, arith}
-use Rattle.std.proofs.lemmas.Bool.{eqb-false, eqb-true, ltb-true, leb-true}
+use Rattle.std.proofs.Common.{◌≡◌, ℕ, ◌+◌, ◌^◌, ◌<◌, ◌≤◌, ◌≢◌, length, set, Some, None, Ok, Option, Result, sym, ap, ◌∙◌, subst, ⊎_elim, arith}
 use Rattle.record.specs.Sector.{content}
 use Rattle.record.specs.declared.numbers.Rank.{Rank}
 use Rattle.record.specs.declared.sector.Content.{Content}
-use Rattle.record.specs.declared.sector.Content.TheVariants.{Blank, Foreign, Record as Holds}
 use Rattle.record.specs.declared.sector.Format.{Format}
 use Rattle.record.specs.declared.sector.Record.{Record}
 use Rattle.disk.specs.Meaning.{Meaning, at, Flushed}
@@ -23,11 +21,7 @@ use Rattle.ring.proofs.Searches.{search_ends, search_goes_on, stops_at_write, st
 
 -- the top rises with a record
 pub noted_since : (k k' : Known) (s : ℕ) (end : Rank) (start : ℕ) → start < 2 ^ 63 → start ≤ k.top.0 → k' ≡ noted k (next_known k s end) → start ≤ k'.top.0
-noted_since k k' s end start small since e = omega (arith, ap (λ (x : Known). x.top.0) e)
-
--- what the code carries
-carry_tests : (q r : Record) (a b c d : Bool) → cond (not a && ((b && c) && d)) (Some q) None ≡ Some r → (q ≡ r) × (a ≡ false) × (b ≡ true) × (c ≡ true) × (d ≡ true)
-carry_tests q r a b c d h = grind arith
+noted_since k k' s end start small since e = grind arith
 
 -- a record that the code carries is of another series, and the live one as the ring knows it, no newer than the start
 pub record Carries (k : Known) (s start : ℕ) (r : Record) : Type 0 where
@@ -37,17 +31,7 @@ pub record Carries (k : Known) (s start : ℕ) (r : Record) : Type 0 where
   pub old : r.sequence.0 ≤ start
 
 pub carries_from : (k : Known) (s start : ℕ) (c : Content) (r : Record) → carry_of k s start c ≡ Some r → Carries k s start r
-carries_from k s start Blank r e = absurd cc
-carries_from k s start Foreign r e = absurd cc
-carries_from k s start (Holds q) r e =
-    let t = carry_tests q r (eqb q.series s) (ltb q.series 8) (eqb q.sequence.0 (live_among k.lives q.series).number.0) (leb q.sequence.0 start) e in
-    subst (Carries k s start) t.0
-    (record {
-      other = eqb-false q.series s t.1;
-      series = ltb-true q.series 8 t.2;
-      number = eqb-true _ _ t.3;
-      old = leb-true q.sequence.0 start t.4;
-    })
+carries_from k s start c r e = grind arith
 
 -- fewer are left after it
 pub carries_less :

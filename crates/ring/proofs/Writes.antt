@@ -1,8 +1,9 @@
 -- What a record written into the gap changes: one lemma for a reservation and for a carry.
-use Rattle.std.proofs.Common.{◌≡◌, ℕ, ◌+◌, ◌/◌, ◌%◌, ◌^◌, ◌<◌, ◌≤◌, true, false, ◌&&◌, eqb, ◌≢◌, ◌⊎◌, List, [], length, set, Some, sym, refl, ap, ◌∙◌, inl, inr, ⊎_elim, mul-le-mul_right, suc-mul, arith}
-use Rattle.std.proofs.lemmas.Nat.{div-add-mod', mod_below}
+use Rattle.std.proofs.Common.{◌≡◌, ℕ, ◌+◌, ◌%◌, ◌^◌, ◌<◌, ◌≤◌, true, false, ◌&&◌, eqb, ◌≢◌, ◌⊎◌, List, [], length, set, Some, sym, refl, ap, ◌∙◌, inl, inr, ⊎_elim, arith}
+use Rattle.std.proofs.lemmas.Grind.{common_steps}
+use Rattle.std.proofs.lemmas.Nat.{mod_below}
 use Rattle.std.proofs.lemmas.List.{get_or-set_same, get_or-set_other, length-set}
-use Rattle.std.proofs.lemmas.Bool.{cases_lt, cases_eq, eq-eqb, ne_eqb, eqb-false}
+use Rattle.std.proofs.lemmas.Bool.{cases_eq, eq-eqb, ne_eqb}
 use Rattle.record.specs.Sector.{content, encoded, lawful}
 use Rattle.record.specs.declared.sector.Content.TheVariants.{Record as Holds}
 use Rattle.record.specs.declared.sector.Format.{Format}
@@ -14,13 +15,7 @@ use Rattle.ring.proofs.Slots.{Placed, placed, lawful_from, Among, top_above, top
 
 -- numbers that name the same of n sectors are n apart
 pub apart : (x y n : ℕ) → x % n ≡ y % n → x < y → x + n ≤ y
-apart x y n e l =
-    let a = div-add-mod' x n in
-    let b = div-add-mod' y n in
-    ⊎_elim
-    (λ less. omega (arith, mul-le-mul_right n less, suc-mul (x / n) n))
-    (λ more. absurd (omega (arith, mul-le-mul_right n more)))
-    (cases_lt (x / n) (y / n))
+apart x y n e l = grind arith
 
 -- the sector after the gap holds no live record of a series other than s
 abbrev pub Clear : Format → List (List ℕ) → ℕ → Type 0
@@ -52,9 +47,7 @@ module _ (f : Format) (reading : List (List ℕ)) (sized : Sized f reading) wher
   beyond_lies = mod_below (top f reading + 2) (length reading) (omega (arith, sized.least))
 
   pub beyond_apart : beyond f reading ≢ gap f reading
-  beyond_apart e =
-      let h = apart (top f reading + 1) (top f reading + 2) (length reading) (sym e) (omega arith) in
-      absurd (omega (arith, sized.least))
+  beyond_apart e = grind arith
 
   -- a record in the sector after the gap is old
   pub old_beyond : (q : Record) → slot f reading (beyond f reading) ≡ Some q → q.sequence.0 + 8 ≤ top f reading
@@ -67,25 +60,10 @@ module _ (f : Format) (reading : List (List ℕ)) (sized : Sized f reading) wher
 
   module _ (s end : ℕ) (w : Writable f reading s end) where
     pub next_placed : Placed f (gap f reading) (next f reading s end)
-    next_placed =
-        record {
-          series = w.series;
-          first = omega arith;
-          last = w.numbered;
-          some = w.some;
-          ends = w.ends;
-          sectors = omega (arith, sized.count, sized.least);
-          place = ap (λ (n : ℕ). (top f reading + 1) % n) sized.count;
-        }
+    next_placed = grind arith
 
     next_fits : Fit f.tag (next f reading s end)
-    next_fits =
-        record {
-          tag_fits = sized.tags;
-          series_fits = omega (arith, w.series);
-          sequence_fits = omega (arith, w.numbered);
-          end_fits = omega (arith, w.ends, sized.tops);
-        }
+    next_fits = grind arith
 
     abbrev after : List (List ℕ)
     after = with_record f reading (next f reading s end)
@@ -153,11 +131,7 @@ module _ (f : Format) (reading : List (List ℕ)) (sized : Sized f reading) wher
       held_elsewhere :
           (t : ℕ) (r : Record) (a : Among f reading (length reading) r) → r.series ≡ t → live f reading t ≡ live_of r →
           a.at_sector ≢ gap f reading
-      held_elsewhere t r a same is here =
-          let in_gap : slot f reading (gap f reading) ≡ Some r = ap (slot f reading) (sym here) ∙ a.holds in
-          let number : (live f reading r.series).number.0 ≡ r.sequence.0 =
-          ap (λ (x : ℕ). (live f reading x).number.0) same ∙ ap (λ (x : Live). x.number.0) is in
-          eqb-false r.sequence.0 (live f reading r.series).number.0 (free r in_gap) (sym number)
+      held_elsewhere t r a same is here = grind arith
 
       pub live_other : (t : ℕ) → t ≢ s → live f after t ≡ live f reading t
       live_other t ne =
@@ -194,11 +168,4 @@ module _ (f : Format) (reading : List (List ℕ)) (sized : Sized f reading) wher
           (cases_eq q.series s)
 
     pub sized_written : Sized f after
-    sized_written =
-        record {
-          count = sized.count ∙ sym same_length;
-          least = omega (arith, sized.least, same_length);
-          most = omega (arith, sized.most, same_length);
-          tags = sized.tags;
-          tops = sized.tops;
-        }
+    sized_written = grind (arith, common_steps)

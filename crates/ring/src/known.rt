@@ -26,6 +26,7 @@ pub(crate) struct Claim {
     pub(crate) end: Rank,
 }
 
+// A record as the live one of its series.
 impl From<Record> for Live {
     ghost from_gives = { λ entry live. live ≡ live_of entry };
 
@@ -45,7 +46,7 @@ impl Live {
     };
 }
 
-// The one of the higher number; the first of two that have the same.
+// The one of the higher number, and the first where they are equal, where max_by_key would take the second.
 fn newest(a: Live, b: Live) -> Live
     ensures { result ≡ newer a b }
 {
@@ -76,7 +77,8 @@ impl Known {
         self.live(series).end
     }
 
-    // The live records, with another one for a series; as they are for a series above 7.
+    // The live records, with another one for a series; as they are for a series above 7. After a get_mut in place of the test
+    // no proof knows the elements.
     #[tactic(auto, using(std::proofs::lemmas::List::set_past))]
     fn with_live(self, series: u8, live: Live) -> [Live; 8]
         ensures { result ≡ slice_set self.lives series live }
