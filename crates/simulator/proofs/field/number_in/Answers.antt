@@ -1,7 +1,7 @@
--- One byte more, and at the end no byte is left.
+-- One byte more.
 use Rattle.std.proofs.Common.{◌≡◌, ◌+◌, get_or, drop, sym, ◌∙◌, arith}
-use Rattle.std.proofs.lemmas.List.{at_drop_more, at_drop_all}
-use Rattle.simulator.specs.Field.{told, after_byte, number_of}
+use Rattle.std.proofs.lemmas.List.{at_drop_more}
+use Rattle.simulator.specs.Field.{told, after_byte}
 use Rattle.simulator.proofs.Powers.{below_more, below_all}
 use Rattle.simulator.proofs.field.number_in.Goals as goal
 
@@ -16,8 +16,3 @@ loop-byte-preserved c =
     let step : told c.loop-byte.told (drop i bs) ≡ told (after_byte c.loop-byte.told b) (drop (i + 1) bs) = at_drop_more (told c.loop-byte.told) bs i 0 (omega arith) in
     let bound = below_more i b c.loop-byte.told c.loop-byte.invariant.1 in
     rw c.then-told.ensures (sym step ∙ c.loop-byte.invariant.0, bound)
-
-pub returns : goal.returns
-returns c =
-    let end : told c.loop-byte.told (drop c.loop-byte.byte-index c.args.bytes.now) ≡ number_of c.loop-byte.told = at_drop_all (told c.loop-byte.told) c.args.bytes.now c.loop-byte.byte-index (omega arith) in
-    cc
