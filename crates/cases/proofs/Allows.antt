@@ -1,6 +1,7 @@
 -- A run by the rules is one that the contract of the call allows.
 use Rattle.std.proofs.Common.{◌≡◌, ℕ, zero, suc, ◌*◌, ◌^◌, ◌<◌, ◌≤◌, min, Bool, true, false, cond, ◌&&◌, leb, List, [], ◌∷◌, length, Some, None, Ok, Err, MatchBool, Option, Result, sym, refl, ap, ◌∙◌, subst, inl, inr, ⊎_elim, arith, leb-true}
 use Rattle.std.proofs.lemmas.Bool.{cases_lt, cases_eq}
+use Rattle.std.proofs.lemmas.Option.{none-some}
 use Rattle.record.specs.Sector.{content}
 use Rattle.record.specs.declared.numbers.Identifier.{Identifier}
 use Rattle.record.specs.declared.numbers.Rank.{Rank}
@@ -57,14 +58,11 @@ use Rattle.cases.proofs.Goes.{Level, went_by, level_by, was_left}
 no_ok : {A B : Type 0} (x : A) (y : B) → ◌≡◌ {A = Result A B} (Err y) (Ok x) → ⊥
 no_ok x y e = let z : ◌≡◌ {A = ℕ} 0 1 = cc in omega arith
 
-no_some : {A : Type 0} (x : A) → ◌≡◌ {A = Option A} (Some x) None → ⊥
-no_some x e = let z : ◌≡◌ {A = ℕ} 0 1 = cc in omega arith
-
 -- a server that wakes is well
 first-none : (x : Option ℕ) (b : Bool) (n : ℕ) → first_of x (cond b (Some n) None) ≡ None → (x ≡ None) × (b ≡ false)
 first-none None false n e = (refl, refl)
-first-none None true n e = absurd (no_some n e)
-first-none (Some i) b n e = absurd (no_some i e)
+first-none None true n e = absurd (none-some n (sym e))
+first-none (Some i) b n e = absurd (none-some i (sym e))
 
 native_below : (f : Format) (reading : List (List ℕ)) (n : ℕ) → foreign_below f reading n ≡ None → (k : ℕ) → k < n → is_foreign (content f k (at reading k)) ≡ false
 unfolding foreign_below
@@ -204,7 +202,7 @@ module _ (make : Make) (k : Numbering) (u : Up) (m : Meaning) (s : ℕ) (agrees 
         answer = Ok reserved;
         reserves =
             record {
-              refused = λ fault some. absurd (no_some fault (sym some ∙ none));
+              refused = λ fault some. absurd (none-some fault (sym none ∙ some));
               reserves = λ _ _. record { agrees = agrees'; format = refl; answers = e; goes = went };
             };
         answered = (refl, refl);
@@ -217,7 +215,7 @@ module _ (make : Make) (k : Numbering) (u : Up) (m : Meaning) (s : ℕ) (agrees 
         answer = Err fault;
         reserves =
             record {
-              refused = λ other some. absurd (no_some other (sym some ∙ none));
+              refused = λ other some. absurd (none-some other (sym none ∙ some));
               reserves = λ _ _. record { agrees = agrees'; format = refl; answers = e; goes = went };
             };
         answered = (refl, refl);
@@ -234,7 +232,7 @@ module _ (make : Make) (k : Numbering) (u : Up) (m : Meaning) (s : ℕ) (agrees 
       reserves =
           record {
             refused = λ other some. (let q : fault ≡ other = cc in ap Err q, refl, refl);
-            reserves = λ _ none. absurd (no_some fault (sym e ∙ none));
+            reserves = λ _ none. absurd (none-some fault (sym none ∙ e));
           };
       answered = (refl, refl);
     },

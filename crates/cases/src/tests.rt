@@ -6,13 +6,8 @@ use std::test::Fail;
 fn last_number(simulator: &mut Simulator, line: &[u8]) -> u64 {
     let mut print = [0; 34];
     let _ = simulator.take(line, &mut print);
-    let mut number = 0u64;
-    for byte in print[13..33].iter().copied() {
-        if byte.is_ascii_digit() {
-            number = number.wrapping_mul(10).wrapping_add(u64::from(byte - b'0'));
-        }
-    }
-    number
+    let digits = str::from_utf8(&print[13..33]).unwrap_or_default();
+    digits.trim_start().parse().unwrap_or_default()
 }
 
 // The seven lines on one of the disks: what the last two print.
@@ -41,10 +36,9 @@ fn the_print_line_around_its_34_bytes(rt: HostRuntime) -> Result<(), Fail> {
     let mut memory = [0; 320];
     let mut simulator = Simulator::new(&mut memory);
     let mut short = [b'.'; 33];
-    match simulator.take(b"D    0            10\n", &mut short) {
-        Err(Denial::ShortPrint) => {}
-        _ => return Err(Fail::new("taken")),
-    }
+    let Err(Denial::ShortPrint) = simulator.take(b"D    0            10\n", &mut short) else {
+        return Err(Fail::new("taken"));
+    };
     assert_eq!(rt; short, [b'.'; 33]);
     let mut print = [b'.'; 36];
     let _ = simulator.take(b"D    0            10\n", &mut print);

@@ -1,6 +1,7 @@
 -- A field of so many bytes tells a number below that power of ten.
 use Rattle.std.proofs.Common.{◌≡◌, ℕ, ◌+◌, ◌-◌, ◌*◌, ◌^◌, ◌<◌, ◌≤◌, Bool, true, false, cond, not, ◌&&◌, eqb, refl, pow-suc, add-one, arith}
 use native.Mathlib.Nat.{pow-le-pow_right, one-le-pow}
+use Rattle.std.proofs.lemmas.Bool.{and_parts}
 use Rattle.std.proofs.lemmas.Bool.Decides.{nat_tests}
 use Rattle.simulator.specs.Field.{is_digit, after_byte, Below}
 use Rattle.simulator.specs.declared.field.Told.{Told}
@@ -13,10 +14,6 @@ chosen : (bound : ℕ) (test : Bool) (t u : Told) → (test ≡ true → Below b
 chosen bound true t u yes' no' = yes' refl
 chosen bound false t u yes' no' = no' refl
 
-both_first : (a b : Bool) → a && b ≡ true → a ≡ true
-both_first true b h = refl
-both_first false b h = h
-
 pub below_more : (i b : ℕ) (t : Told) → Below (10 ^ i) t → Below (10 ^ (i + 1)) (after_byte t b)
 below_more i b Spaces h =
     let e : 10 ^ (i + 1) ≡ 10 ^ i * 10 = rw add-one (pow-suc 10 i) in
@@ -25,7 +22,7 @@ below_more i b Spaces h =
     chosen _ (eqb b 32) _ _ (λ _. tt) (λ _. chosen _ (is_digit b) _ _ first (λ _. tt))
 below_more i b (Number n) h =
     let e : 10 ^ (i + 1) ≡ 10 ^ i * 10 = rw add-one (pow-suc 10 i) in
-    let next : is_digit b && not (eqb n 0) ≡ true → 10 * n + (b - 48) < 10 ^ (i + 1) = λ d. let k = digit_below b (both_first (is_digit b) _ d) in omega arith in
+    let next : is_digit b && not (eqb n 0) ≡ true → 10 * n + (b - 48) < 10 ^ (i + 1) = λ d. let k = digit_below b (and_parts (is_digit b) _ d).0 in omega arith in
     chosen _ (is_digit b && not (eqb n 0)) _ _ next (λ _. tt)
 below_more i b Wrong h = tt
 

@@ -11,16 +11,16 @@ use Rattle.simulator.specs.declared.field.Told.TheVariants.{Spaces, Number, Wron
 use Rattle.simulator.specs.Columns.{spaced, NumbersInColumns}
 
 -- what all bytes make of what was told
-after_bytes : Told → List ℕ → Told
+unfoldable pub after_bytes : Told → List ℕ → Told
 after_bytes t [] = t
 after_bytes t (b ∷ bs) = after_bytes (after_byte t b) bs
 
-told_is : (t : Told) (bs : List ℕ) → told t bs ≡ number_of (after_bytes t bs)
+pub told_is : (t : Told) (bs : List ℕ) → told t bs ≡ number_of (after_bytes t bs)
 unfolding after_bytes
 told_is t [] = refl
 told_is t (b ∷ bs) = told_is (after_byte t b) bs
 
-after_push : (t : Told) (bs : List ℕ) (b : ℕ) → after_bytes t (bs ++ (b ∷ [])) ≡ after_byte (after_bytes t bs) b
+pub after_push : (t : Told) (bs : List ℕ) (b : ℕ) → after_bytes t (bs ++ (b ∷ [])) ≡ after_byte (after_bytes t bs) b
 unfolding after_bytes
 after_push t [] b = refl
 after_push t (x ∷ bs) b = after_push (after_byte t x) bs b

@@ -45,9 +45,8 @@ pub(crate) fn number_in(bytes: &[u8]) -> Option<u64>
     requires { length bytes.now ≤ 18 }
     ensures { result ≡ field bytes.now }
 {
-    let mut told = Told::Spaces;
-    for byte in bytes {
-        told = told.then(*byte);
-    }
-    told.number()
+    bytes
+        .iter()
+        .fold(Told::Spaces, |told, byte| told.then(*byte))
+        .number()
 }

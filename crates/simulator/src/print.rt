@@ -28,8 +28,8 @@ fn fill_before(columns: &mut [u8], rest: u64)
     }
 }
 
-// A number in all of the columns: its digits at the right end, spaces before them. Written by hand, since no clause of std says
-// that `write!` into bytes succeeds.
+// A number in all of the columns: its digits at the right end, spaces before them. Written by hand: no clause of std says what
+// `write!` leaves in bytes.
 fn right_justify(columns: &mut [u8], number: u64)
     ensures { columns.new ≡ justified (length columns.old) number }
 {
