@@ -7,16 +7,16 @@ use Rattle.std.specs.Coded.{×_prop}
 use Rattle.kind.specs.Range.{IsWithin, is_within, within_by_test, if_passed, made_within}
 use Rattle.kind.specs.declared.fault.SettingFault.{SettingFault}
 
-passed-made :
+passed_made :
     {X : Type 0} (test : Bool) (fault : SettingFault) (make : IsTrue test → X) (passed : IsTrue test) →
     if_passed test fault make ≡ Ok (make passed)
-passed-made true fault make passed = ap (λ proof. Ok (make proof)) (Bool-set true true refl passed)
-passed-made false fault make passed = absurd (let same : ◌≡◌ false true = passed in cc)
+passed_made true fault make passed = ap (λ proof. Ok (make proof)) (Bool-set true true refl passed)
+passed_made false fault make passed = absurd (let same : ◌≡◌ false true = passed in cc)
 
-pub within-made :
+pub within_made :
     {X : Type 0} (low high n : ℕ) (fault : SettingFault) (make : IsWithin low high n → X) (fits : IsWithin low high n) →
     Ok (make fits) ≡ made_within low high n fault make
-within-made low high n fault make fits =
+within_made low high n fault make fits =
     let passed : IsTrue (is_within low high n) = and_from (nat_le low n) (nat_le n high) (le-leb low n fits.0) (le-leb n high fits.1) in
     ap (λ proof. Ok (make proof)) (×_prop le_prop le_prop fits (within_by_test low high n passed))
-    ∙ sym (passed-made (is_within low high n) fault (λ proof. make (within_by_test low high n proof)) passed)
+    ∙ sym (passed_made (is_within low high n) fault (λ proof. make (within_by_test low high n proof)) passed)
