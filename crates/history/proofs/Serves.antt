@@ -38,9 +38,6 @@ pub record Serving (k : Numbering) (start : Meaning) (past : List Event) (calls 
   pub answered : answers_of events ≡ answers
   pub reached : Reached k start (events ++ past) state m
 
-pub serving_none : (k : Numbering) (start : Meaning) (past : List Event) (state : State) (m : Meaning) → Reached k start past state m → Serving k start past [] [] state m
-serving_none k start past state m reached = record { events = []; asked = refl; answered = refl; reached = reached }
-
 pub serving_more :
     (k : Numbering) (start : Meaning) (past : List Event) (calls : List Call) (answers : List Answer) (state : State) (m : Meaning) (call : Call) (answer : Answer) (after : State) (m' : Meaning)
     (so_far : Serving k start past calls answers state m) → Made k start (so_far.events ++ past) call answer after m' →

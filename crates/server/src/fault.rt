@@ -50,8 +50,7 @@ fn named_by(fault: RingFault) -> usize
     ensures { result ≡ ring_sector fault }
 {
     match fault {
-        RingFault::Foreign(sector) => sector,
-        RingFault::LiveInGap(sector) => sector,
+        RingFault::Foreign(sector) | RingFault::LiveInGap(sector) => sector,
         RingFault::Disk(denied) => denied.sector,
         RingFault::Interrupted(stopped) => stopped.fault.sector,
         _ => 0,

@@ -9,7 +9,8 @@ use kind::Kind;
 use record::{Identifier, Rank, Reading, Sequence};
 use ring::Ring;
 
-// A disk, a kind, and whether the server is up.
+// A disk, a kind, and whether the server is up. The kind stays: each call says so, since that ties two values of this type
+// together, which an invariant of one cannot.
 #[derive(Drop)]
 pub struct Server<D, K> {
     pub(crate) disk: D,

@@ -12,6 +12,7 @@ pub enum AnyKind {
     Time(TimeKind),
 }
 
+// Each method matches for itself: the gate refuses a function that hands out a `&dyn Kind`.
 impl Kind for AnyKind {
     ghost numbering = { numbering_of };
 
