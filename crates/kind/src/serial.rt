@@ -23,7 +23,7 @@ impl SerialKind {
     pub fn new(size: u64) -> Result<SerialKind, SettingFault>
         ensures { result ≡ serial_kind_of size }
     {
-        if size < 1 || size > LARGEST {
+        if !(1..=LARGEST).contains(&size) {
             return Err(SettingFault::BlockSize);
         }
         Ok(SerialKind { size })

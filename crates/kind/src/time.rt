@@ -30,7 +30,7 @@ impl Lease {
     pub fn new(milliseconds: u64) -> Result<Lease, SettingFault>
         ensures { result ≡ lease_of milliseconds }
     {
-        if milliseconds < 1 || milliseconds > LONGEST {
+        if !(1..=LONGEST).contains(&milliseconds) {
             return Err(SettingFault::Lease);
         }
         Ok(Lease { milliseconds })

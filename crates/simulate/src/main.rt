@@ -75,6 +75,7 @@ impl<W: Write> Session<'_, W> {
 fn read_piece<R: Read>(input: &mut R, buffer: &mut [u8]) -> io::Result<usize>
     ensures { IfOk result (λ count. count ≤ length buffer.old) }
 {
+    // A bound that is never met, since a loop without one would be allowed to wait for ever.
     for _ in 0..u64::MAX {
         match input.read(buffer) {
             Ok(count) => return Ok(count),
@@ -95,6 +96,7 @@ fn main(rt: HostRuntime) -> anyhow::Result<()> {
         partial: Partial::new(),
         out: BufWriter::new(rt.alloc(), rt.stdout())?,
     };
+    // The same bound: no input has so many pieces.
     for _ in 0..u64::MAX {
         if session.take_piece(&mut input, &mut buffer)?.is_break() {
             break;

@@ -87,10 +87,10 @@ fn cleared_disk<'a, H: HoldBack>(memory: &'a mut [u8], sectors: usize) -> Memory
     requires zeros { memory.old ≡ replicate (32 * sectors) 0 }
     ensures { memory_disk H.before result ≡ cleared sectors }
 {
-    match MemoryDisk::new(memory, sectors, FIRST_SUPPLY) {
-        Ok(disk) => disk,
-        Err(_) => unreachable(),
-    }
+    let Ok(disk) = MemoryDisk::new(memory, sectors, FIRST_SUPPLY) else {
+        unreachable()
+    };
+    disk
 }
 
 // The same of either make.
