@@ -1,4 +1,4 @@
--- The sectors of a memory have 32 bytes each.
+-- The sectors of a memory have 32 bytes each: the proof of that law. A law's proof has to stand in specs; no contract cites it.
 use Rattle.std.proofs.Common.{◌≡◌, ℕ, zero, suc, ◌*◌, ◌/◌, ◌≤◌, List, length, drop, arith}
 use Rattle.std.specs.List.{AllByRecursion}
 use Rattle.std.proofs.lemmas.List.{length-take, length-drop}

@@ -1,4 +1,5 @@
--- A torn write leaves the old content, the new one, or a blank sector.
+-- A torn write leaves the old content, the new one, or a blank sector: the proofs of the torn disk's laws. A law's proof has to
+-- stand in specs; no contract cites it.
 use Rattle.std.proofs.Common.{◌≡◌, ℕ, ◌%◌, ◌<◌, ◌≤◌, Bool, true, false, not, ◌&&◌, ◌≢◌, ◌⊎◌, List, [], length, Some, None, Option, sym, refl, ap, ◌∙◌, subst, inl, inr, ⊎_elim}
 use Rattle.std.specs.Str.{bytes_eq}
 use Rattle.std.proofs.lemmas.Slice.Eq.{bytes_eq-Decides}

@@ -26,7 +26,8 @@ impl BadSize<'_> {
     }
 }
 
-// Whether a memory is that of a disk of so many sectors.
+// Whether a memory is that of a disk of so many sectors. Each call that makes a disk says by this when it makes one: a disk that
+// is not made has no type to say it.
 pub(crate) fn is_right_size(bytes: usize, sectors: usize) -> bool
     ensures { result ≡ right_size bytes sectors }
 {

@@ -19,7 +19,8 @@ pub struct SerialKind {
 impl SerialKind {
     ghost use Rattle.kind.specs.Serial.{serial_kind_of};
 
-    // The kind with blocks of 1 to 10,000 ranks; any other size is denied.
+    // The kind with blocks of 1 to 10,000 ranks; any other size is denied. The test is its own, as in the other constructors: a
+    // shared one would be called by as much text.
     pub fn new(size: u64) -> Result<SerialKind, SettingFault>
         ensures { result ≡ serial_kind_of size }
     {

@@ -36,6 +36,7 @@ impl Written {
         ensures answer { result ≡ confirmed self (answer_of Flush (D.meaning disk.old) self.sector) }
         ensures effect { MatchResult result (λ _. Flushed (D.meaning disk.old) (D.meaning disk.new)) (λ _. D.meaning disk.new ≡ D.meaning disk.old) }
     {
+        // Each arm spends the token: it is taken apart, or handed on.
         match disk.flush(self.sector) {
             Ok(()) => {
                 let Written { claim, sector: _ } = self;

@@ -26,6 +26,8 @@ pub enum Device<'a> {
 // How many writes and flushes succeed on a disk that is new.
 const FIRST_SUPPLY: u64 = 1_000_000;
 
+// Each method matches for itself: there is no heap for a box of either disk. Each says that the make stays, since that ties
+// two values of this type together, which an invariant of one cannot.
 impl Disk for Device<'_> {
     ghost meaning = { meaning_of };
 

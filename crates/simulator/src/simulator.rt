@@ -60,7 +60,8 @@ impl<'a> Simulator<'a> {
         answer
     }
 
-    // What a line that is counted does, and the end of the run where it brings that.
+    // What a line that is counted does, and the end of the run where it brings that. The count stays, here and below: each call
+    // says so, since no invariant of one run can.
     fn answer(&mut self, line: &[u8]) -> Result<Answer, Denial>
         ensures count { self.new.taken ≡ self.old.taken }
         ensures answers { Answered (view self.old.stage) self.old.taken line.now result (view self.new.stage) }
@@ -84,7 +85,7 @@ impl<'a> Simulator<'a> {
         }
     }
 
-    // What a line does, by the stage and the command that its letter stands for.
+    // What a line does, by the stage and the command that its letter stands for: one table of what is lawful where.
     fn step(&mut self, line: &[u8]) -> Result<Answer, Denial>
         ensures count { self.new.taken ≡ self.old.taken }
         ensures steps { Steps (view self.old.stage) line.now result (view self.new.stage) }
