@@ -1,6 +1,5 @@
 // The simulator's call on worked cases, and on lines that it denies.
 use simulator::{Denial, Simulator};
-use std::test::Fail;
 
 // Takes a line, and tells the last number of its print: the 20 columns before the line feed.
 fn last_number(simulator: &mut Simulator, line: &[u8]) -> u64 {
@@ -32,18 +31,16 @@ fn a_write_that_no_flush_follows(rt: HostRuntime) {
 
 // The bytes after the 34th stay, and so does a print line that is too short.
 #[test]
-fn the_print_line_around_its_34_bytes(rt: HostRuntime) -> Result<(), Fail> {
+fn the_print_line_around_its_34_bytes(rt: HostRuntime) {
     let mut memory = [0; 320];
     let mut simulator = Simulator::new(&mut memory);
     let mut short = [b'.'; 33];
-    let Err(Denial::ShortPrint) = simulator.take(b"D    0            10\n", &mut short) else {
-        return Err(Fail::new("taken"));
-    };
+    let line = b"D    0            10\n";
+    assert_eq!(rt; simulator.take(line, &mut short), Err(Denial::ShortPrint));
     assert_eq!(rt; short, [b'.'; 33]);
     let mut print = [b'.'; 36];
-    let _ = simulator.take(b"D    0            10\n", &mut print);
+    let _ = simulator.take(line, &mut print);
     assert_eq!(rt; print, *b"     1   0  0                   0\n..");
-    Ok(())
 }
 
 // The column that a first line is denied for.

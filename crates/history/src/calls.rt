@@ -12,14 +12,14 @@ use server::{Server, ServerFault};
 use std::alloc::{AllocError, Global};
 
 // A call: a request of a series at a clock's reading, or a power cut with its tear and its new supply.
-#[derive(Clone, Copy)]
+#[derive(Clone, Copy, PartialEq, Eq, Debug)]
 pub enum Call {
     Give { series: u8, reading: Reading },
     Cut { tear: u64, supply: u64 },
 }
 
 // What a call answered.
-#[derive(Clone, Copy)]
+#[derive(Clone, Copy, PartialEq, Eq, Debug)]
 pub enum Answer {
     Give(Result<Identifier, ServerFault>),
     Cut(Result<Sequence, ServerFault>),

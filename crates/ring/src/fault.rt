@@ -7,21 +7,21 @@ use disk::DiskFault;
 use record::Rank;
 
 // What was being written: a copy of another series' live record, or the reservation itself; and for which series.
-#[derive(Clone, Copy)]
+#[derive(Clone, Copy, PartialEq, Eq, Debug)]
 pub enum Work {
     Carry(u8),
     Reservation(u8),
 }
 
 // A disk's denial, with the work that it stopped.
-#[derive(Clone, Copy)]
+#[derive(Clone, Copy, PartialEq, Eq, Debug)]
 pub struct Interrupted {
     pub work: Work,
     pub fault: DiskFault,
 }
 
 // A denial of the ring.
-#[derive(Clone, Copy)]
+#[derive(Clone, Copy, PartialEq, Eq, Debug)]
 pub enum RingFault {
     // The disk has fewer than 10 or more than 2,048 sectors.
     Size(usize),

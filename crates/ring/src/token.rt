@@ -24,7 +24,7 @@ pub struct Unconfirmed {
 }
 
 // A reservation that is flushed: the ranks of the series below the end are reserved.
-#[derive(Clone, Copy)]
+#[derive(Clone, Copy, PartialEq, Eq, Debug)]
 pub struct Reserved {
     pub series: u8,
     pub end: Rank,

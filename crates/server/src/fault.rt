@@ -6,7 +6,7 @@ ghost use Rattle.server.specs.declared.fault.ServerFault.TheVariants.{Ring as Of
 use ring::RingFault;
 
 // A denial of the server.
-#[derive(Clone, Copy)]
+#[derive(Clone, Copy, PartialEq, Eq, Debug)]
 pub enum ServerFault {
     // The server is down since this fault.
     Down(RingFault),

@@ -9,7 +9,7 @@ use record::{Identifier, Sequence};
 use server::ServerFault;
 
 // A line that was taken and not denied.
-#[derive(Clone, Copy)]
+#[derive(Clone, Copy, PartialEq, Eq, Debug)]
 pub enum Answer {
     // The device, the kind or the box was set.
     Set,
@@ -20,7 +20,7 @@ pub enum Answer {
 }
 
 // A line that was denied.
-#[derive(Clone, Copy)]
+#[derive(Clone, Copy, PartialEq, Eq, Debug)]
 pub enum Denial {
     // The print line is shorter than 34 bytes: the request is not taken.
     ShortPrint,
@@ -43,7 +43,7 @@ pub enum Denial {
 }
 
 // What is printed after the line's number: the series, the code and the last number.
-#[derive(Clone, Copy)]
+#[derive(Clone, Copy, PartialEq, Eq, Debug)]
 pub struct Columns {
     pub series: u64,
     pub code: u8,

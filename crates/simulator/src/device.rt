@@ -10,7 +10,7 @@ use disk::{Disk, DiskFault, FaithfulDisk, HoldBack, MemoryDisk, TornDisk};
 use record::SECTOR_BYTES;
 
 // Which disk it is.
-#[derive(Clone, Copy)]
+#[derive(Clone, Copy, PartialEq, Eq, Debug)]
 pub enum Make {
     Faithful,
     Torn,

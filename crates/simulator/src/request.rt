@@ -17,7 +17,7 @@ pub enum Command {
 }
 
 // The items of a line.
-#[derive(Clone, Copy)]
+#[derive(Clone, Copy, PartialEq, Eq, Debug)]
 pub enum Item {
     Letter,
     A,

@@ -15,14 +15,14 @@ use std::fmt;
 const TEARS: u64 = 33;
 
 // The disk of a trial.
-#[derive(Clone, Copy)]
+#[derive(Clone, Copy, PartialEq, Eq, Debug)]
 pub enum Device {
     Torn,
     Faithful,
 }
 
 // One trial: on which disk, whether a flush came before the cut, the tear, and what the sector then held.
-#[derive(Clone, Copy)]
+#[derive(Clone, Copy, PartialEq, Eq, Debug)]
 pub struct Trial {
     pub device: Device,
     pub flushed: bool,
@@ -31,7 +31,7 @@ pub struct Trial {
 }
 
 // What can become of the two records: one of them stands, or the sector is blank.
-#[derive(Clone, Copy)]
+#[derive(Clone, Copy, PartialEq, Eq, Debug)]
 pub enum Outcome {
     Older,
     Newer,
