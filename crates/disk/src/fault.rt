@@ -1,6 +1,6 @@
 // Why a disk denied a call.
-ghost use Rattle.std.specs.Prelude.{◌≡◌, ◌-◌};
-ghost use Rattle.disk.specs.Meaning.{answered, number_of};
+ghost use Rattle.std.specs.Prelude.{◌≡◌, ◌-◌, Some};
+ghost use Rattle.disk.specs.Meaning.{answered, number_of, name_of};
 
 use std::fmt;
 
@@ -14,6 +14,8 @@ pub enum Operation {
 
 // The operation by name.
 impl fmt::Display for Operation {
+    ghost output = { λ operation. Some (name_of operation) };
+
     fn fmt<W: fmt::Write>(&self, f: &mut fmt::Formatter<W>) -> fmt::Result {
         f.write_str(match self {
             Operation::Read => "read",

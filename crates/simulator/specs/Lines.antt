@@ -1,13 +1,16 @@
 -- A stream of bytes cut into lines, and how much of a line has to be held.
-use Rattle.std.specs.Prelude.{◌≡◌, ℕ, ◌+◌, List, take, Some, None, Option, option_map, ◌==◌}
-use Rattle.std.specs.List.{position_from}
+use Rattle.std.specs.Prelude.{◌≡◌, ℕ, ◌+◌, cond, List, [], ◌∷◌, take, Some, None, Option, ◌==◌}
 use Rattle.simulator.specs.Request.{command_in, fields_in}
 use Rattle.simulator.specs.declared.partial.Partial.{Partial}
 use Rattle.simulator.specs.declared.request.Command.{Command}
 
--- the count of bytes up to the first line feed and with it, if there is one
+-- the count of bytes up to the first line feed and with it, if there is one; after so many others
+abbrev pub end_after : ℕ → List ℕ → Option ℕ
+end_after n [] = None
+end_after n (b ∷ bs) = cond (b == 10) (Some (n + 1)) (end_after (n + 1) bs)
+
 abbrev pub line_end : List ℕ → Option ℕ
-line_end bytes = option_map (λ at. at + 1) (position_from (λ b. b == 10) 0 bytes)
+line_end bytes = end_after 0 bytes
 
 -- the bytes of the first line, or all of them where no line feed comes
 abbrev pub up_to : List ℕ → Option ℕ → List ℕ
