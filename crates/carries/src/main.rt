@@ -2,7 +2,7 @@
 // of its sixteen writes and flushes in turn.
 #![tactic(auto)]
 
-use disk::{BadSize, Disk, FaithfulDisk, TornDisk};
+use disk::{Disk, HoldBack, LatestWrite, MemoryDisk, WriteThrough};
 use record::{Rank, SECTOR_BYTES};
 use ring::{Reserved, Ring, RingFault, Work};
 use std::{fmt, io};
@@ -74,17 +74,14 @@ fn fill<D: Disk>(disk: &mut D, ring: &mut Ring) -> Result<(), RingFault> {
     Ok(())
 }
 
-// On a new disk the ring is filled; then the reservation with seven carries, with so much supply, and a cut after it. The disk
-// is lent, since the borrow checker does not cover it as a value in a Result.
-fn stop_at<D: Disk>(
-    rt: &HostRuntime,
-    disk: &mut Result<D, BadSize<'_>>,
-    supply: u64,
-    tear: u64,
-) -> io::Result<()> {
-    let Ok(disk) = disk else {
+// On a new disk that holds back as this type says the ring is filled; then the reservation with seven carries, with so much
+// supply, and a cut after it.
+fn stop_at<H: HoldBack>(rt: &HostRuntime, supply: u64, tear: u64) -> io::Result<()> {
+    let mut memory = [0; BYTES];
+    let Ok(mut disk) = MemoryDisk::<H>::new(&mut memory, SECTORS, SUPPLY) else {
         return println!(rt; "no disk");
     };
+    let disk = &mut disk;
     let Ok(mut ring) = Ring::recover(disk, TAG, TOP) else {
         return println!(rt; "no ring");
     };
@@ -114,34 +111,19 @@ fn main(rt: HostRuntime) -> io::Result<()> {
         "Torn disk. The current fails at each of the 16 in turn; a cut tears the last write at byte 20; recovery:"
     )?;
     for supply in 0..17 {
-        stop_at(
-            &rt,
-            &mut TornDisk::new(&mut [0; BYTES], SECTORS, SUPPLY),
-            supply,
-            20,
-        )?;
+        stop_at::<LatestWrite>(&rt, supply, 20)?;
     }
     println!(rt; "")?;
     println!(rt;
         "Torn disk. The current fails at the last flush; the cut tears the reservation at byte 0 to 32:"
     )?;
     for tear in 0..33 {
-        stop_at(
-            &rt,
-            &mut TornDisk::new(&mut [0; BYTES], SECTORS, SUPPLY),
-            15,
-            tear,
-        )?;
+        stop_at::<LatestWrite>(&rt, 15, tear)?;
     }
     println!(rt; "")?;
     println!(rt; "Faithful disk. The current fails at each of the 16 in turn:")?;
     for supply in 0..17 {
-        stop_at(
-            &rt,
-            &mut FaithfulDisk::new(&mut [0; BYTES], SECTORS, SUPPLY),
-            supply,
-            20,
-        )?;
+        stop_at::<WriteThrough>(&rt, supply, 20)?;
     }
     Ok(())
 }

@@ -2,12 +2,11 @@
 use Rattle.std.proofs.Common.{◌≡◌, ℕ, zero, suc, ◌%◌, ◌≤◌, List, [], ◌∷◌, length, sym, refl, ap, ◌∙◌, inl, inr, arith, length-set}
 use Rattle.disk.specs.Devices.{torn, mixture}
 use Rattle.disk.specs.Meaning.{Meaning, Wrote, Flushed, Cut, at}
-use Rattle.disk.specs.Tearing.{mended_one_of}
+use Rattle.disk.specs.Tearing.{mended_one_of, torn_equal}
 use Rattle.ring.specs.Operations.{Op, put, settle, Went}
 use Rattle.simulator.specs.Devices.{written, settled, torn_apart, cut_by}
 use Rattle.simulator.specs.declared.device.Make.{Make}
 use Rattle.simulator.specs.declared.device.Make.TheVariants.{Faithful, Torn}
-use Rattle.simulator.proofs.Tears.{torn_same}
 use Rattle.cases.specs.Exact.{after_ops}
 
 -- as many sectors are kept as are read
@@ -51,7 +50,7 @@ level_by make (settle ∷ ops) m level = level_by make ops (settled m) refl
 
 -- what a tear leaves of each sector
 at-torn : (tear : ℕ) (kept reading : List (List ℕ)) (k : ℕ) → length kept ≡ length reading → at (torn_apart tear kept reading) k ≡ torn tear (at kept k) (at reading k)
-at-torn tear [] [] k level = sym (torn_same tear [])
+at-torn tear [] [] k level = sym (torn_equal tear [])
 at-torn tear [] (x ∷ reading) k level = absurd (omega arith)
 at-torn tear (x ∷ kept) [] k level = absurd (omega arith)
 at-torn tear (x ∷ kept) (y ∷ reading) zero level = refl
@@ -78,7 +77,7 @@ was_left Torn tear supply m level =
     record {
       reads_count = length-torn tear m.kept m.reading level;
       reads = λ k. rw (one k) (mended_one_of (mixture (tear % 33) (at m.kept k) (at m.reading k)) (at m.kept k) (at m.reading k));
-      settled = λ k e. one k ∙ ap (λ (x : List ℕ). torn tear x (at m.reading k)) e ∙ torn_same tear (at m.reading k);
+      settled = λ k e. one k ∙ ap (λ (x : List ℕ). torn tear x (at m.reading k)) e ∙ torn_equal tear (at m.reading k);
       keeps = refl;
       supplied = refl;
       leaves = refl;

@@ -2,6 +2,7 @@
 use Rattle.std.specs.Prelude.{ℕ, ◌%◌, cond, not, ◌&&◌, List, ◌++◌, length, take, drop, Some, None, Option, nat_lt, slice_set}
 use Rattle.std.specs.Str.{bytes_eq}
 use Rattle.record.specs.Sector.{sound}
+use Rattle.disk.specs.Holding.{Holding}
 use Rattle.disk.specs.Meaning.{Meaning, at}
 use Rattle.disk.specs.Memory.{sectors, spare, stored}
 use Rattle.disk.specs.declared.faithful.WriteThrough.{WriteThrough}
@@ -18,15 +19,20 @@ memory_disk before d =
       beyond = spare d.sectors.memory.now;
     }
 
+-- no write is ever held back
+abbrev pub write_through : Holding WriteThrough
+write_through =
+    record {
+      nothing = record {};
+      with_write = λ through _ _. through;
+      before = λ _ sectors. sectors;
+      left_sectors = λ _ _ sectors. sectors;
+      left = λ _ _ memory. memory;
+    }
+
 -- a faithful disk keeps what it reads
 abbrev pub faithful : MemoryDisk WriteThrough → Meaning
-faithful d =
-    record {
-      reading = sectors d.sectors.memory.now;
-      kept = sectors d.sectors.memory.now;
-      supply = d.supply;
-      beyond = spare d.sectors.memory.now;
-    }
+faithful d = memory_disk write_through.before d
 
 -- the sectors as they were before the write that is held back
 abbrev pub before : Option Held → List (List ℕ) → List (List ℕ)
@@ -35,13 +41,7 @@ before (Some h) sectors = slice_set sectors h.sector h.old
 
 -- a torn disk keeps what it reads, but for the write that it holds back
 abbrev pub torn_disk : MemoryDisk (Option Held) → Meaning
-torn_disk d =
-    record {
-      reading = sectors d.sectors.memory.now;
-      kept = before d.held (sectors d.sectors.memory.now);
-      supply = d.supply;
-      beyond = spare d.sectors.memory.now;
-    }
+torn_disk d = memory_disk before d
 
 -- the old content, with its first t bytes replaced by those of the new
 abbrev pub mixture : ℕ → List ℕ → List ℕ → List ℕ
@@ -71,3 +71,14 @@ left_sectors tear (Some h) sectors = slice_set sectors h.sector (torn tear h.old
 -- the write that a torn disk holds back once bytes are written into sector i
 abbrev pub holding : ℕ → List ℕ → Held
 holding i memory = record { sector = i; old = at (sectors memory) i }
+
+-- the latest write is held back
+abbrev pub latest_write : Holding (Option Held)
+latest_write =
+    record {
+      nothing = None;
+      with_write = λ _ sector old. Some (record { sector = sector; old = old });
+      before = before;
+      left_sectors = left_sectors;
+      left = left;
+    }

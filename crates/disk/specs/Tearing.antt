@@ -6,8 +6,8 @@ use Rattle.std.proofs.lemmas.Slice.Eq.{bytes_eq-Decides}
 use Rattle.std.proofs.lemmas.List.{length-set, get_or-set_same, get_or-set_other, set-set, set-get_or, set_past, take-append-drop}
 use Rattle.std.proofs.lemmas.Bool.{cases_Bool, cases_eq, cases_lt, true≢false}
 use Rattle.record.specs.Sector.{sound}
-use Rattle.disk.specs.Devices.{before, mixture, mended, torn, left_sectors}
-use Rattle.disk.specs.Holding.{KeepsOneOf}
+use Rattle.disk.specs.Devices.{before, mixture, mended, torn, left_sectors, latest_write}
+use Rattle.disk.specs.Holding.{KeepsOneOf, LawfulHolding}
 use Rattle.disk.specs.Meaning.{at, Cut}
 use Rattle.disk.specs.declared.torn.Held.{Held}
 
@@ -32,7 +32,7 @@ module _ (mixed old new : List ℕ) where
       (cases_Bool (sound mixed && (not (bytes_eq mixed old) && not (bytes_eq mixed new))))
 
 -- equal contents are left as they are
-torn_equal : (tear : ℕ) (s : List ℕ) → torn tear s s ≡ s
+pub torn_equal : (tear : ℕ) (s : List ℕ) → torn tear s s ≡ s
 torn_equal tear s =
     let whole = take-append-drop (tear % 33) s in
     ⊎_elim (λ e. rw e refl) (λ e. rw e whole)
@@ -134,3 +134,7 @@ pub before-write :
     KeepsOneOf before (λ _ sector old. Some (record { sector = sector; old = old })) h xs i bytes
 before-write h xs i bytes k =
     inr (inl (ap (λ (ys : List (List ℕ)). at ys k) (set-set xs i bytes (at xs i) ∙ set-get_or xs i [])))
+
+pub torn_lawful : LawfulHolding latest_write
+torn_lawful =
+    record { nothing_before = λ xs. refl; before_count = before-count; before_write = before-write; cuts = cut_by_tear }

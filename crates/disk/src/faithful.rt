@@ -1,5 +1,5 @@
 // A disk on which a write lasts as soon as it is made.
-ghost use Rattle.std.specs.Prelude.{◌≡◌};
+ghost use Rattle.disk.specs.Devices.{write_through};
 ghost use Rattle.std.proofs.Common.{rules};
 
 use crate::hold::HoldBack;
@@ -15,23 +15,9 @@ pub struct WriteThrough;
 pub type FaithfulDisk<'a> = MemoryDisk<'a, WriteThrough>;
 
 impl HoldBack for WriteThrough {
-    ghost nothing = { record {} };
+    ghost holding = { write_through };
 
-    ghost with_write = { λ through _ _. through };
-
-    ghost before = { λ _ sectors. sectors };
-
-    ghost left_sectors = { λ _ _ sectors. sectors };
-
-    ghost left = { λ _ _ memory. memory };
-
-    ghost nothing_before = { Prim.search rules };
-
-    ghost before_count = { Prim.search rules };
-
-    ghost before_write = { Prim.search rules };
-
-    ghost cuts = { Prim.search rules };
+    ghost lawful = { Prim.search rules };
 
     fn nothing() -> WriteThrough {
         WriteThrough

@@ -40,15 +40,24 @@ pub struct DiskFault {
     pub sector: usize,
 }
 
+impl Cause {
+    // The number that a denial for this cause goes by.
+    pub fn number(self) -> u8
+        ensures { result ≡ number_of self }
+    {
+        match self {
+            Cause::NoSector => 3,
+            Cause::Dark => 12,
+        }
+    }
+}
+
 impl DiskFault {
     // The number that the denial goes by.
     pub fn number(&self) -> u8
         ensures { result ≡ number_of self.now.cause }
     {
-        match self.cause {
-            Cause::NoSector => 3,
-            Cause::Dark => 12,
-        }
+        self.cause.number()
     }
 }
 

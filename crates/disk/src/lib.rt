@@ -16,8 +16,8 @@ pub use fault::{Cause, DiskFault, Operation};
 pub use hold::HoldBack;
 pub use memory::MemoryDisk;
 pub use sectors::Sectors;
-pub use size::{BadSize, LEAST_SECTORS, MOST_SECTORS};
-pub use torn::{Held, TornDisk};
+pub use size::{BadSize, LEAST_SECTORS, MOST_SECTORS, is_right_size};
+pub use torn::{Held, LatestWrite, TornDisk};
 
 #[cfg(test)]
 mod tests;

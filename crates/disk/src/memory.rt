@@ -30,7 +30,7 @@ impl<'a, H: HoldBack> MemoryDisk<'a, H> {
     ) -> Result<MemoryDisk<'a, H>, BadSize<'a>>
         ensures test { is_ok result ≡ right_size (length memory.old) sectors }
         ensures count { IfOk result (λ d. length (cut_up d.sectors.memory.now) ≡ sectors) }
-        ensures cases { MatchResult result (λ d. (d.sectors.memory.now ≡ memory.old) × (d.supply ≡ supply) × (d.held ≡ H.nothing)) (λ e. e.memory.now ≡ memory.old) }
+        ensures cases { MatchResult result (λ d. (d.sectors.memory.now ≡ memory.old) × (d.supply ≡ supply) × (d.held ≡ H.holding.nothing)) (λ e. e.memory.now ≡ memory.old) }
     {
         let sectors = Sectors::over(memory, sectors)?;
         Ok(MemoryDisk {
@@ -42,9 +42,9 @@ impl<'a, H: HoldBack> MemoryDisk<'a, H> {
 }
 
 impl<H: HoldBack> Disk for MemoryDisk<'_, H> {
-    ghost meaning = { memory_disk H.before };
+    ghost meaning = { memory_disk H.holding.before };
 
-    ghost shaped = { λ disk. record { bytes = all_shaped disk.sectors.memory.now; keeps = H.before_count disk.held (cut_up disk.sectors.memory.now) } };
+    ghost shaped = { λ disk. record { bytes = all_shaped disk.sectors.memory.now; keeps = H.lawful.before_count disk.held (cut_up disk.sectors.memory.now) } };
 
     fn sectors(&self) -> usize {
         self.sectors.count()
@@ -55,10 +55,10 @@ impl<H: HoldBack> Disk for MemoryDisk<'_, H> {
     }
 
     fn write(&mut self, sector: usize, bytes: &[u8; SECTOR_BYTES]) -> Result<(), DiskFault>
-        ensures answer { result ≡ answer_of Write (memory_disk H.before self.old) sector }
-        ensures effect { MatchResult result (λ _. Wrote (memory_disk H.before self.old) sector bytes.now (memory_disk H.before self.new)) (λ _. memory_disk H.before self.new ≡ memory_disk H.before self.old) }
+        ensures answer { result ≡ answer_of Write (memory_disk H.holding.before self.old) sector }
+        ensures effect { MatchResult result (λ _. Wrote (memory_disk H.holding.before self.old) sector bytes.now (memory_disk H.holding.before self.new)) (λ _. memory_disk H.holding.before self.new ≡ memory_disk H.holding.before self.old) }
         ensures memory { self.new.sectors.memory.now ≡ (if is_ok result then stored self.old.sectors.memory.now sector bytes.now else self.old.sectors.memory.now) }
-        ensures holds { self.new.held ≡ (if is_ok result then H.with_write self.old.held sector (at (cut_up self.old.sectors.memory.now) sector) else self.old.held) }
+        ensures holds { self.new.held ≡ (if is_ok result then H.holding.with_write self.old.held sector (at (cut_up self.old.sectors.memory.now) sector) else self.old.held) }
     {
         self.supply = admit(Operation::Write, sector, self.sectors.count(), self.supply)?;
         let old = self.sectors.load(sector);
@@ -68,10 +68,10 @@ impl<H: HoldBack> Disk for MemoryDisk<'_, H> {
     }
 
     fn flush(&mut self, sector: usize) -> Result<(), DiskFault>
-        ensures answer { result ≡ answer_of Flush (memory_disk H.before self.old) sector }
-        ensures effect { MatchResult result (λ _. Flushed (memory_disk H.before self.old) (memory_disk H.before self.new)) (λ _. memory_disk H.before self.new ≡ memory_disk H.before self.old) }
+        ensures answer { result ≡ answer_of Flush (memory_disk H.holding.before self.old) sector }
+        ensures effect { MatchResult result (λ _. Flushed (memory_disk H.holding.before self.old) (memory_disk H.holding.before self.new)) (λ _. memory_disk H.holding.before self.new ≡ memory_disk H.holding.before self.old) }
         ensures memory { self.new.sectors.memory.now ≡ self.old.sectors.memory.now }
-        ensures holds { self.new.held ≡ (if is_ok result then H.nothing else self.old.held) }
+        ensures holds { self.new.held ≡ (if is_ok result then H.holding.nothing else self.old.held) }
     {
         self.supply = admit(Operation::Flush, sector, self.sectors.count(), self.supply)?;
         self.held = H::nothing();
@@ -79,10 +79,10 @@ impl<H: HoldBack> Disk for MemoryDisk<'_, H> {
     }
 
     fn cut(&mut self, tear: u64, supply: u64)
-        ensures meaning { Cut (memory_disk H.before self.old) supply (memory_disk H.before self.new) }
-        ensures memory { self.new.sectors.memory.now ≡ H.left tear self.old.held self.old.sectors.memory.now }
-        ensures sectors { cut_up self.new.sectors.memory.now ≡ H.left_sectors tear self.old.held (cut_up self.old.sectors.memory.now) }
-        ensures holds { self.new.held ≡ H.nothing }
+        ensures meaning { Cut (memory_disk H.holding.before self.old) supply (memory_disk H.holding.before self.new) }
+        ensures memory { self.new.sectors.memory.now ≡ H.holding.left tear self.old.held self.old.sectors.memory.now }
+        ensures sectors { cut_up self.new.sectors.memory.now ≡ H.holding.left_sectors tear self.old.held (cut_up self.old.sectors.memory.now) }
+        ensures holds { self.new.held ≡ H.holding.nothing }
     {
         self.held.tear(tear, &mut self.sectors);
         self.held = H::nothing();

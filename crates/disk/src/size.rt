@@ -4,6 +4,7 @@ ghost use Rattle.disk.specs.Meaning.{number_of};
 ghost use Rattle.disk.specs.declared.fault.Cause.TheVariants.{NoSector};
 ghost use Rattle.disk.specs.Memory.{right_size};
 
+use crate::fault::Cause;
 use record::SECTOR_BYTES;
 
 // The least and the greatest number of sectors.
@@ -22,13 +23,13 @@ impl BadSize<'_> {
     pub fn number(&self) -> u8
         ensures { result ≡ number_of NoSector }
     {
-        3
+        Cause::NoSector.number()
     }
 }
 
-// Whether a memory is that of a disk of so many sectors. Each call that makes a disk says by this when it makes one: a disk that
-// is not made has no type to say it.
-pub(crate) fn is_right_size(bytes: usize, sectors: usize) -> bool
+// Whether a memory is that of a disk of so many sectors. Each constructor of a disk says this of its answer: no type can say it
+// of a memory that was turned away.
+pub fn is_right_size(bytes: usize, sectors: usize) -> bool
     ensures { result ≡ right_size bytes sectors }
 {
     (LEAST_SECTORS..=MOST_SECTORS).contains(&sectors) && bytes == SECTOR_BYTES * sectors

@@ -1,9 +1,7 @@
 // A disk that holds back the latest write, and tears it at a cut.
-ghost use Rattle.std.specs.Prelude.{◌≡◌, ◌≤◌, ℕ, Some, None};
-ghost use Rattle.std.specs.Str.{bytes_eq};
-ghost use Rattle.disk.specs.Devices.{before, mixture, torn as left_of, left, left_sectors};
-ghost use Rattle.disk.specs.Tearing.{before-count, before-write, cut_by_tear};
-ghost use Rattle.std.proofs.Common.{rules};
+ghost use Rattle.std.specs.Prelude.{◌≡◌, ◌≤◌};
+ghost use Rattle.disk.specs.Devices.{mixture, torn as left_of, latest_write};
+ghost use Rattle.disk.specs.Tearing.{torn_lawful};
 
 use crate::hold::HoldBack;
 use crate::memory::MemoryDisk;
@@ -17,8 +15,11 @@ pub struct Held {
     old: [u8; SECTOR_BYTES],
 }
 
-// The disk that holds back the latest write until a flush or the next write.
-pub type TornDisk<'a> = MemoryDisk<'a, Option<Held>>;
+// The latest write, until a flush or the next write.
+pub type LatestWrite = Option<Held>;
+
+// The disk that holds it back.
+pub type TornDisk<'a> = MemoryDisk<'a, LatestWrite>;
 
 // The old content, with so many of its first bytes replaced by those of the new.
 fn mix(count: usize, old: &[u8; SECTOR_BYTES], new: &[u8; SECTOR_BYTES]) -> [u8; SECTOR_BYTES]
@@ -42,26 +43,12 @@ fn tear_apart(tear: u64, old: &[u8; SECTOR_BYTES], new: &[u8; SECTOR_BYTES]) -> 
     }
 }
 
-impl HoldBack for Option<Held> {
-    ghost nothing = { None };
+impl HoldBack for LatestWrite {
+    ghost holding = { latest_write };
 
-    ghost with_write = { λ _ sector old. Some (record { sector = sector; old = old }) };
+    ghost lawful = { torn_lawful };
 
-    ghost before = { before };
-
-    ghost left_sectors = { left_sectors };
-
-    ghost left = { left };
-
-    ghost nothing_before = { Prim.search rules };
-
-    ghost before_count = { before-count };
-
-    ghost before_write = { before-write };
-
-    ghost cuts = { cut_by_tear };
-
-    fn nothing() -> Option<Held> {
+    fn nothing() -> LatestWrite {
         None
     }
 

@@ -48,6 +48,7 @@ pub fn serve<D: Disk, K: Kind>(
     ensures promise { (start : Meaning) (past : List Event) → Reached (K.numbering server.old.kind) start past server.old.state (D.meaning server.old.disk) → MatchResult result (λ answers. Served (K.numbering server.old.kind) start past calls.now answers.items server.new.state (D.meaning server.new.disk)) (λ _. BrokeOff (K.numbering server.old.kind) start past calls.now server.new.state (D.meaning server.new.disk)) }
 {
     let mut answers = Vec::new(heap);
+    // A loop, since each call changes the server: of what a closure changes a chain tells nothing.
     for call in calls {
         answers.push(make(server, *call))?;
     }

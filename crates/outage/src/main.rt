@@ -4,7 +4,7 @@
 use disk::{Disk, TornDisk};
 use history::{Answer, Call, make};
 use kind::{Kind, SerialKind};
-use record::{Identifier, Reading, Sequence};
+use record::{Identifier, Reading, SECTOR_BYTES, Sequence};
 use server::{Server, ServerFault};
 use std::{fmt, io};
 
@@ -99,7 +99,7 @@ fn main(rt: HostRuntime) -> io::Result<()> {
         give(2),
         give(5),
     ];
-    let mut memory = [0; 320];
+    let mut memory = [0; SECTORS * SECTOR_BYTES];
     let Ok(disk) = TornDisk::new(&mut memory, SECTORS, SUPPLY) else {
         return println!(rt; "no disk");
     };

@@ -39,7 +39,7 @@ pub const LAST_SEQUENCE: u64 = 0x3fff_ffff_ffff_ffff;
 pub fn is_sound(sector: &[u8; SECTOR_BYTES]) -> bool
     ensures { result ≡ sound sector.now }
 {
-    let Some((body, checksum)) = sector.split_last_chunk() else {
+    let Some((body, checksum)) = sector.split_last_chunk::<4>() else {
         unreachable()
     };
     crc32(body) == u32::from_le_bytes(*checksum)
@@ -64,7 +64,7 @@ fn number_at(bytes: &[u8], at: usize) -> u64
     requires { at + 8 ≤ length bytes.now }
     ensures { result ≡ little (bytes_at at 8 bytes.now) }
 {
-    let Some(number) = bytes[at..].first_chunk() else {
+    let Some(number) = bytes[at..].first_chunk::<8>() else {
         unreachable()
     };
     u64::from_le_bytes(*number)
@@ -78,11 +78,10 @@ fn are_zero(first: u8, second: u8, others: u64) -> bool
 }
 
 // The tag and the record that a sector's bytes tell; none where a byte that a record leaves free is not zero.
-fn take_apart(sector: &[u8]) -> Option<(u8, Record)>
-    requires { length sector.now ≡ 32 }
+fn take_apart(sector: &[u8; SECTOR_BYTES]) -> Option<(u8, Record)>
     ensures { result ≡ told_by (parts sector.now) }
 {
-    let [tag, series, zero, also_zero, rest @ ..] = sector else {
+    let [tag, series, zero, also_zero, rest @ ..] = sector.as_slice() else {
         unreachable()
     };
     if !are_zero(*zero, *also_zero, number_at(rest, 16)) {

@@ -4,8 +4,8 @@ ghost use Rattle.ring.specs.Ring.{newer, live_of, met, noted, next_known, carry_
 
 use record::{Content, Rank, Record, Sequence};
 
-// The live record of a series: its number and its end. Both are 0 where there is none, as the rules give it: an Option would
-// be unwrapped to 0 at each use.
+// The live record of a series: its number and its end. Both are 0 where there is none: the rules give such a series the end 0, and
+// no record has the number 0, so that an Option would be told nowhere.
 #[derive(Clone, Copy)]
 pub struct Live {
     pub number: Sequence,
@@ -19,11 +19,23 @@ pub struct Known {
     pub lives: [Live; 8],
 }
 
-// What a record is to claim: the series, and its new end.
+// What a record is to claim: the series, and its new end. A rank is drawn only from a `Reserved`, which is flushed.
 #[derive(Clone, Copy)]
 pub(crate) struct Claim {
     pub(crate) series: u8,
     pub(crate) end: Rank,
+}
+
+// What a record that is carried claims anew.
+impl From<Record> for Claim {
+    ghost from_gives = { λ entry claim. claim ≡ record { series = entry.series; end = entry.end } };
+
+    fn from(entry: Record) -> Claim {
+        Claim {
+            series: entry.series,
+            end: entry.end,
+        }
+    }
 }
 
 // A record as the live one of its series.

@@ -139,10 +139,7 @@ impl Ring {
         ensures work { IfErr result (λ stopped. stopped.work ≡ Carry entry.series) }
         ensures effect { MatchResult result (λ _. (between : Meaning) × Writes self.old (D.meaning disk.old) entry.series entry.end self.new between × Flushed between (D.meaning disk.new)) (λ stopped. Denied self.old (D.meaning disk.old) entry.series entry.end stopped.fault self.new (D.meaning disk.new)) }
     {
-        let claim = Claim {
-            series: entry.series,
-            end: entry.end,
-        };
+        let claim = Claim::from(entry);
         let work = Work::Carry(claim.series);
         let gap = self.gap();
         self.write_record(disk, gap, work, claim)?;

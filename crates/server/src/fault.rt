@@ -45,7 +45,8 @@ impl ServerFault {
     }
 }
 
-// The sector that a denial of the ring names, 0 where it names none.
+// The sector that a denial of the ring names, 0 where it names none: that is what is printed then, so an Option would only be
+// unwrapped.
 fn named_by(fault: RingFault) -> usize
     ensures { result ≡ ring_sector fault }
 {

@@ -6,15 +6,15 @@ use record::Rank;
 use ring::{Ring, RingFault};
 
 // A server that is up: its ring, and of each series the next rank of the block in hand. The block's end is the series' end,
-// which the ring knows.
+// which the ring knows; the ring knows nothing of ranks that are given.
 #[derive(Clone, Copy)]
 pub struct Up {
     pub(crate) ring: Ring,
     pub(crate) nexts: [Rank; 8],
 }
 
-// Up, or down with the fault that brought the server down. It has the shape of a Result and names of its own: a server that is
-// down is no failed answer.
+// Up, or down with the fault that brought the server down. It has the shape of a Result and names of its own, as the
+// project asks: a server that is down is no failed answer.
 #[derive(Clone, Copy)]
 pub enum State {
     Up(Up),
@@ -27,7 +27,7 @@ impl Up {
         requires { series < 8 }
         ensures { result ≡ next_in self.nexts series }
     {
-        self.nexts[series as usize]
+        self.nexts[usize::from(series)]
     }
 
     // The same server with another next rank of a series.
@@ -36,7 +36,7 @@ impl Up {
         ensures { result ≡ with_next self series next }
     {
         let mut nexts = self.nexts;
-        nexts[series as usize] = next;
+        nexts[usize::from(series)] = next;
         Up {
             ring: self.ring,
             nexts,

@@ -5,6 +5,7 @@ use Rattle.std.specs.Str.{bytes_eq}
 use Rattle.record.specs.Sector.{sound}
 use Rattle.disk.specs.Devices.{torn, mixture, mended, before, left_sectors, torn_disk, holding}
 use Rattle.disk.specs.Meaning.{Meaning, Wrote, Cut, at}
+use Rattle.disk.specs.Tearing.{torn_equal}
 use Rattle.disk.specs.Memory.{sectors}
 use Rattle.disk.specs.declared.fault.DiskFault.{DiskFault}
 use Rattle.disk.specs.declared.memory.MemoryDisk.{MemoryDisk}
@@ -15,27 +16,17 @@ use Rattle.simulator.specs.declared.device.Make.TheVariants.{Torn}
 abbrev TornDisk : Type 0
 TornDisk = MemoryDisk (Option Held)
 
-either : {A : Type 0} (b : Bool) (x : A) → cond b x x ≡ x
-either true x = refl
-either false x = refl
-
--- a sector whose two contents are the same stays
-pub torn_same : (tear : ℕ) (xs : List ℕ) → torn tear xs xs ≡ xs
-torn_same tear xs =
-    let m : mixture (tear % 33) xs xs ≡ xs = take-append-drop (tear % 33) xs in
-    ap (λ (ys : List ℕ). mended ys xs xs) m ∙ either (sound xs && (not (bytes_eq xs xs) && not (bytes_eq xs xs))) xs
-
 all_same : (tear : ℕ) (reading : List (List ℕ)) → reading ≡ torn_apart tear reading reading
 all_same tear [] = refl
 all_same tear (x ∷ xs) =
-    ap (λ (y : List ℕ). y ∷ xs) (sym (torn_same tear x)) ∙ ap (λ (ys : List (List ℕ)). torn tear x x ∷ ys) (all_same tear xs)
+    ap (λ (y : List ℕ). y ∷ xs) (sym (torn_equal tear x)) ∙ ap (λ (ys : List (List ℕ)). torn tear x x ∷ ys) (all_same tear xs)
 
 -- only the sector that is held back differs
 one_differs : (tear : ℕ) (old : List ℕ) (reading : List (List ℕ)) (i : ℕ) → set reading i (torn tear old (get_or reading i [])) ≡ torn_apart tear (set reading i old) reading
 one_differs tear old [] i = refl
 one_differs tear old (x ∷ xs) zero = ap (λ (ys : List (List ℕ)). torn tear old x ∷ ys) (all_same tear xs)
 one_differs tear old (x ∷ xs) (suc i) =
-    ap (λ (y : List ℕ). y ∷ set xs i (torn tear old (get_or xs i []))) (sym (torn_same tear x)) ∙ ap (λ (ys : List (List ℕ)). torn tear x x ∷ ys) (one_differs tear old xs i)
+    ap (λ (y : List ℕ). y ∷ set xs i (torn tear old (get_or xs i []))) (sym (torn_equal tear x)) ∙ ap (λ (ys : List (List ℕ)). torn tear x x ∷ ys) (one_differs tear old xs i)
 
 left_is : (tear : ℕ) (held : Option Held) (reading : List (List ℕ)) → left_sectors tear held reading ≡ torn_apart tear (before held reading) reading
 left_is tear None reading = all_same tear reading

@@ -4,6 +4,7 @@ ghost use Rattle.disk.specs.Meaning.{answer_of, Wrote, Flushed, Cut};
 ghost use Rattle.disk.specs.Devices.{memory_disk};
 ghost use Rattle.disk.specs.Memory.{right_size};
 ghost use Rattle.disk.specs.declared.fault.Operation.TheVariants.{Write, Flush};
+ghost use Rattle.simulator.specs.Stages.{room};
 ghost use Rattle.simulator.specs.Devices.{meaning_of, shaped, make_of, cleared, written, settled, cut_by};
 
 use disk::{Disk, DiskFault, FaithfulDisk, HoldBack, MemoryDisk, TornDisk};
@@ -87,7 +88,7 @@ impl Disk for Device<'_> {
 fn cleared_disk<'a, H: HoldBack>(memory: &'a mut [u8], sectors: usize) -> MemoryDisk<'a, H>
     requires size { T (right_size (length memory.old) sectors) }
     requires zeros { memory.old ≡ replicate (32 * sectors) 0 }
-    ensures { memory_disk H.before result ≡ cleared sectors }
+    ensures { memory_disk H.holding.before result ≡ cleared sectors }
 {
     let Ok(disk) = MemoryDisk::new(memory, sectors, FIRST_SUPPLY) else {
         unreachable()
@@ -95,11 +96,9 @@ fn cleared_disk<'a, H: HoldBack>(memory: &'a mut [u8], sectors: usize) -> Memory
     disk
 }
 
-// The same of either make.
+// A new disk of the make that is asked for.
 fn over<'a>(make: Make, memory: &'a mut [u8], sectors: usize) -> Device<'a>
-    requires least { 10 ≤ sectors }
-    requires most { sectors ≤ 2048 }
-    requires long { length memory.old ≡ 32 * sectors }
+    requires size { T (right_size (length memory.old) sectors) }
     requires zeros { memory.old ≡ replicate (32 * sectors) 0 }
     ensures make { make_of result ≡ make }
     ensures cleared { meaning_of result ≡ cleared sectors }
@@ -125,9 +124,7 @@ pub(crate) fn open<'a>(
     memory: &'a mut [u8],
     sectors: usize,
 ) -> (Device<'a>, &'a mut [u8])
-    requires least { 10 ≤ sectors }
-    requires most { sectors ≤ 2048 }
-    requires long { 32 * sectors ≤ length memory.old }
+    requires { T (room (length memory.old) sectors) }
     ensures make { make_of result.0 ≡ make }
     ensures cleared { meaning_of result.0 ≡ cleared sectors }
     ensures spare { result.1.now ≡ drop (32 * sectors) memory.old }

@@ -1,11 +1,12 @@
 // Where a run stands, by the lines that were taken.
 ghost use Rattle.std.specs.Prelude.{◌≡◌, ok_or};
+ghost use Rattle.simulator.specs.Takes.{finished};
 ghost use Rattle.simulator.specs.Stages.{view, started, leased, closed, room, make_for};
 ghost use Rattle.simulator.specs.declared.answer.Denial.TheVariants.{NoDevice};
 ghost use Rattle.simulator.specs.declared.stage.Left.TheVariants.{Nothing};
 ghost use Rattle.simulator.specs.declared.stage.Stage.TheVariants.{Ended};
 
-use crate::answer::Denial;
+use crate::answer::{Answer, Denial};
 use crate::any_kind::AnyKind;
 use crate::device::{Device, Make};
 use disk::{LEAST_SECTORS, MOST_SECTORS};
@@ -78,8 +79,17 @@ impl Stage<'_> {
         };
     }
 
+    // Ends the run after a denial that does so.
+    pub(crate) fn finish(&mut self, answer: Result<Answer, Denial>)
+        ensures { view self.new ≡ finished answer (view self.old) }
+    {
+        if answer.is_err_and(|denial| denial.ends_run()) {
+            self.end();
+        }
+    }
+
     // The run ends.
-    pub(crate) fn end(&mut self)
+    fn end(&mut self)
         ensures { view self.new ≡ closed (view self.old) }
     {
         *self = Stage::Ended(match mem::take(self) {

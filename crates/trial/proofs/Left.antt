@@ -3,9 +3,9 @@ use Rattle.std.proofs.Common.{◌≡◌, ℕ, Bool, true, false, T, ◌⊎◌, L
 use Rattle.record.specs.Sector.{sound, content, encoded}
 use Rattle.record.specs.declared.sector.Content.TheVariants.{Blank, Record as Holds}
 use Rattle.record.proofs.ReadBack.{read_back}
-use Rattle.disk.specs.Holding.{KeepsOneOf}
+use Rattle.disk.specs.Holding.{Holding, LawfulHolding}
 use Rattle.disk.specs.Meaning.{at, Cut}
-use Rattle.trial.specs.Trial.{format, older, newer, blank_sectors, rewritten, held, left_on, left_faithful, OneOfThree}
+use Rattle.trial.specs.Trial.{format, older, newer, blank_sectors, rewritten, held, left_on, left_faithful, KeepsNewer, OneOfThree}
 
 reads_older : content format 3 (encoded 1 older) ≡ Holds older
 reads_older = read_back 1 older (record { tag_fits = lit< tt; series_fits = lit< tt; sequence_fits = lit< tt; end_fits = lit< tt }) format 3
@@ -27,27 +27,30 @@ one_of_bytes s (inr (inr e)) = inr (inr (blank s e))
 abbrev with_older : List (List ℕ)
 with_older = slice_set blank_sectors 3 (encoded 1 older)
 
--- on any disk over memory, by what it promises of the writes that it holds back
-module _ {H : Type 0} (nothing : H) (with_write : H → ℕ → List ℕ → H) (before : H → List (List ℕ) → List (List ℕ)) (left_sectors : ℕ → H → List (List ℕ) → List (List ℕ))
-    (nothing_before : (xs : List (List ℕ)) → before nothing xs ≡ xs)
-    (before_write : (h : H) (xs : List (List ℕ)) (i : ℕ) (bytes : List ℕ) → KeepsOneOf before with_write h xs i bytes)
-    (cuts : (h : H) (tear was supply : ℕ) (xs : List (List ℕ)) (beyond : List ℕ) → Cut (record { reading = xs; kept = before h xs; supply = was; beyond = beyond }) supply (record { reading = left_sectors tear h xs; kept = left_sectors tear h xs; supply = supply; beyond = beyond })) where
-  cut_of : (flushed : Bool) (tear : ℕ) → Cut (record { reading = rewritten; kept = before (held nothing with_write flushed) rewritten; supply = 0; beyond = [] }) 0 (record { reading = left_sectors tear (held nothing with_write flushed) rewritten; kept = left_sectors tear (held nothing with_write flushed) rewritten; supply = 0; beyond = [] })
-  cut_of flushed tear = cuts (held nothing with_write flushed) tear 0 0 rewritten []
+-- on any disk over memory, by the laws of what it holds back
+module _ {H : Type 0} (w : Holding H) (laws : LawfulHolding w) where
+  cut_of :
+      (flushed : Bool) (tear : ℕ) →
+      Cut (record { reading = rewritten; kept = w.before (held w flushed) rewritten; supply = 0; beyond = [] }) 0
+      (record { reading = w.left_sectors tear (held w flushed) rewritten; kept = w.left_sectors tear (held w flushed) rewritten; supply = 0; beyond = [] })
+  cut_of flushed tear = laws.cuts (held w flushed) tear 0 0 rewritten []
 
-  kept_is : (flushed : Bool) → (at (before (held nothing with_write flushed) rewritten) 3 ≡ encoded 1 older) ⊎ (at (before (held nothing with_write flushed) rewritten) 3 ≡ encoded 1 newer)
-  kept_is true = inr (ap (λ (ys : List (List ℕ)). at ys 3) (nothing_before rewritten))
+  kept_is :
+      (flushed : Bool) →
+      (at (w.before (held w flushed) rewritten) 3 ≡ encoded 1 older) ⊎ (at (w.before (held w flushed) rewritten) 3 ≡ encoded 1 newer)
+  kept_is true = inr (ap (λ (ys : List (List ℕ)). at ys 3) (laws.nothing_before rewritten))
   kept_is false =
-      ⊎_elim (λ e. inl (e ∙ ap (λ (ys : List (List ℕ)). at ys 3) (nothing_before with_older))) (⊎_elim inl inr)
-      (before_write nothing with_older 3 (encoded 1 newer) 3)
+      ⊎_elim (λ e. inl (e ∙ ap (λ (ys : List (List ℕ)). at ys 3) (laws.nothing_before with_older))) (⊎_elim inl inr)
+      (laws.before_write w.nothing with_older 3 (encoded 1 newer) 3)
 
-  pub one_of_three_on : (flushed : Bool) (tear : ℕ) → OneOfThree (left_on nothing with_write left_sectors flushed tear)
-  one_of_three_on flushed tear =
+  pub one_of_three : (flushed : Bool) (tear : ℕ) → OneOfThree (left_on w flushed tear)
+  one_of_three flushed tear =
       one_of_bytes _
       (⊎_elim (λ e. ⊎_elim (λ k. inl (e ∙ k)) (λ k. inr (inl (e ∙ k))) (kept_is flushed)) inr ((cut_of flushed tear).reads 3))
 
-  pub settled_on : (flushed : Bool) (tear : ℕ) → T flushed → left_on nothing with_write left_sectors flushed tear ≡ Holds newer
-  settled_on true tear t =
-      ap (content format 3) ((cut_of true tear).settled 3 (ap (λ (ys : List (List ℕ)). at ys 3) (nothing_before rewritten)))
-      ∙ reads_newer
-  settled_on false tear t = absurd t
+  pub stands : (flushed : Bool) (tear : ℕ) → KeepsNewer w flushed → left_on w flushed tear ≡ Holds newer
+  stands flushed tear kept = ap (content format 3) ((cut_of flushed tear).settled 3 kept) ∙ reads_newer
+
+  pub settled : (flushed : Bool) (tear : ℕ) → T flushed → left_on w flushed tear ≡ Holds newer
+  settled true tear t = stands true tear (ap (λ (ys : List (List ℕ)). at ys 3) (laws.nothing_before rewritten))
+  settled false tear t = absurd t

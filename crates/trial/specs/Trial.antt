@@ -6,6 +6,7 @@ use Rattle.record.specs.declared.sector.Content.TheVariants.{Blank, Record as Ho
 use Rattle.record.specs.declared.sector.Format.{Format}
 use Rattle.record.specs.declared.sector.Record.{Record}
 use Rattle.disk.specs.Devices.{torn}
+use Rattle.disk.specs.Holding.{Holding}
 use Rattle.disk.specs.Meaning.{at}
 
 -- the disk of the trial has ten sectors and serial records
@@ -28,14 +29,17 @@ abbrev pub rewritten : List (List ℕ)
 rewritten = slice_set blank_sectors 3 (encoded 1 newer)
 
 -- what a disk holds back of the trial: nothing once it was flushed, and else the write over the older record
-abbrev pub held : {H : Type 0} → H → (H → ℕ → List ℕ → H) → Bool → H
-held nothing with_write true = nothing
-held nothing with_write false = with_write nothing 3 (encoded 1 older)
+abbrev pub held : {H : Type 0} → Holding H → Bool → H
+held w true = w.nothing
+held w false = w.with_write w.nothing 3 (encoded 1 older)
 
 -- what a cut leaves of the sector, as it is read
-abbrev pub left_on : {H : Type 0} → H → (H → ℕ → List ℕ → H) → (ℕ → H → List (List ℕ) → List (List ℕ)) → Bool → ℕ → Content
-left_on nothing with_write left_sectors flushed tear =
-    content format 3 (at (left_sectors tear (held nothing with_write flushed) rewritten) 3)
+abbrev pub left_on : {H : Type 0} → Holding H → Bool → ℕ → Content
+left_on w flushed tear = content format 3 (at (w.left_sectors tear (held w flushed) rewritten) 3)
+
+-- the newer record is kept before the cut: it was flushed, or no write is held back
+abbrev pub KeepsNewer : {H : Type 0} → Holding H → Bool → Type 0
+KeepsNewer w flushed = at (w.before (held w flushed) rewritten) 3 ≡ encoded 1 newer
 
 -- a torn disk leaves the newer record where it was flushed, and else what the tear makes of the two
 abbrev pub bytes_left : Bool → ℕ → List ℕ

@@ -2,10 +2,10 @@
 ghost use Rattle.std.specs.Prelude.{◌≡◌, T, Ok};
 ghost use Rattle.record.specs.declared.sector.Content.TheVariants.{Record as Holds};
 ghost use Rattle.disk.specs.Memory.{sectors};
-ghost use Rattle.trial.specs.Trial.{blank_sectors, left_on, OneOfThree, format as the_format, older as the_older, newer as the_newer};
+ghost use Rattle.trial.specs.Trial.{blank_sectors, left_on, KeepsNewer, OneOfThree, format as the_format, older as the_older, newer as the_newer};
 
 use disk::{Disk, DiskFault, HoldBack, MemoryDisk};
-use record::{Content, Format, Rank, Record, Sequence, classify, encode};
+use record::{Content, Format, Rank, Record, SECTOR_BYTES, Sequence, classify, encode};
 
 // How many sectors the disk of the trial has.
 const SECTORS: usize = 10;
@@ -60,7 +60,7 @@ fn rewrite_and_cut<H: HoldBack>(
     tear: u64,
 ) -> Result<Content, DiskFault>
     requires { (sectors disk.old.sectors.memory.now ≡ blank_sectors) × (disk.old.supply ≡ 100) }
-    ensures { result ≡ Ok (left_on H.nothing H.with_write H.left_sectors flushed tear) }
+    ensures { result ≡ Ok (left_on H.holding flushed tear) }
 {
     disk.write(SECTOR, &encode(TAG, older()))?;
     disk.flush(SECTOR)?;
@@ -74,11 +74,12 @@ fn rewrite_and_cut<H: HoldBack>(
 
 // One trial on a disk that holds back as this type says: what the sector then holds.
 pub fn left_by<H: HoldBack>(flushed: bool, tear: u64) -> Content
-    ensures value { result ≡ left_on H.nothing H.with_write H.left_sectors flushed tear }
+    ensures value { result ≡ left_on H.holding flushed tear }
     ensures one_of_three { OneOfThree result }
     ensures settled { T flushed → result ≡ Holds the_newer }
+    ensures stands { KeepsNewer H.holding flushed → result ≡ Holds the_newer }
 {
-    let mut memory = [0; 320];
+    let mut memory = [0; SECTORS * SECTOR_BYTES];
     let Ok(mut disk) = MemoryDisk::<H>::new(&mut memory, SECTORS, SUPPLY) else {
         unreachable()
     };

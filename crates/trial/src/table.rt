@@ -6,7 +6,7 @@ ghost use Rattle.trial.specs.Trial.{newer, OneOfThree};
 ghost use Rattle.trial.specs.Table.{trial_of, leaves, how_many, stands};
 
 use crate::cut::{left_by, newer, older};
-use disk::{Held, WriteThrough};
+use disk::{LatestWrite, WriteThrough};
 use record::Content;
 use std::alloc::{AllocError, Global};
 use std::fmt;
@@ -59,7 +59,7 @@ pub fn cut_at(device: Device, flushed: bool, tear: u64) -> Trial
     ensures settled { T (stands device flushed) → result.left ≡ Holds newer }
 {
     let left = match device {
-        Device::Torn => left_by::<Option<Held>>(flushed, tear),
+        Device::Torn => left_by::<LatestWrite>(flushed, tear),
         Device::Faithful => left_by::<WriteThrough>(flushed, tear),
     };
     Trial {

@@ -4,14 +4,13 @@ ghost use Rattle.disk.specs.Devices.{memory_disk};
 ghost use Rattle.disk.specs.Memory.{right_size};
 ghost use Rattle.worked.specs.Blank.{BlankDisk};
 
-use disk::{BadSize, HoldBack, LEAST_SECTORS, MOST_SECTORS, MemoryDisk};
-use record::SECTOR_BYTES;
+use disk::{BadSize, HoldBack, MemoryDisk, is_right_size};
 
 // Clears memory that is that of a disk of so many sectors, and leaves any other as it is.
 fn clear(memory: &mut [u8], sectors: usize)
     ensures { memory.new ≡ (if right_size (length memory.old) sectors then replicate (length memory.old) 0 else memory.old) }
 {
-    if (LEAST_SECTORS..=MOST_SECTORS).contains(&sectors) && memory.len() == SECTOR_BYTES * sectors {
+    if is_right_size(memory.len(), sectors) {
         memory.fill(0);
     }
 }
@@ -23,7 +22,7 @@ fn clear_and_make<'a, H: HoldBack>(
     supply: u64,
 ) -> Result<MemoryDisk<'a, H>, BadSize<'a>>
     ensures test { is_ok result ≡ right_size (length memory.old) sectors }
-    ensures cases { MatchResult result (λ d. (d.sectors.memory.now ≡ replicate (length memory.old) 0) × (d.supply ≡ supply) × (d.held ≡ H.nothing)) (λ e. e.memory.now ≡ memory.old) }
+    ensures cases { MatchResult result (λ d. (d.sectors.memory.now ≡ replicate (length memory.old) 0) × (d.supply ≡ supply) × (d.held ≡ H.holding.nothing)) (λ e. e.memory.now ≡ memory.old) }
 {
     clear(memory, sectors);
     MemoryDisk::new(memory, sectors, supply)
@@ -37,7 +36,7 @@ pub fn blank_disk<'a, H: HoldBack>(
     supply: u64,
 ) -> Result<MemoryDisk<'a, H>, BadSize<'a>>
     ensures test { is_ok result ≡ right_size (length memory.old) sectors }
-    ensures cases { MatchResult result (λ d. BlankDisk sectors supply d.sectors.memory.now (memory_disk H.before d) × (d.held ≡ H.nothing)) (λ e. e.memory.now ≡ memory.old) }
+    ensures cases { MatchResult result (λ d. BlankDisk sectors supply d.sectors.memory.now (memory_disk H.holding.before d) × (d.held ≡ H.holding.nothing)) (λ e. e.memory.now ≡ memory.old) }
 {
     clear_and_make(memory, sectors, supply)
 }

@@ -9,4 +9,4 @@ returns g c =
     let h = c.in-Ok.ensures.cases in
     let d = c.in-Ok.disk in
     meaning_zeros d.sectors.memory.now _ d.supply c.args.sectors (h.0 ∙ c.requires.zeros)
-    (ap (λ held. g.H.HoldBack.before held (sectors d.sectors.memory.now)) h.2 ∙ g.met.H.HoldBack.nothing_before (sectors d.sectors.memory.now)) h.1
+    (ap (λ held. g.H.HoldBack.holding.before held (sectors d.sectors.memory.now)) h.2 ∙ g.met.H.HoldBack.lawful.nothing_before (sectors d.sectors.memory.now)) h.1

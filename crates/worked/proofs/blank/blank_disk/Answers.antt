@@ -13,7 +13,7 @@ returns g c =
           by_test c.clear_and_make.result _ made.test made.cases
           (λ d e h. (
             blank_disk (length c.args.memory.now) _ _ _ _ e h.0 refl
-                (ap (λ x. g.H.HoldBack.before x (sectors d.sectors.memory.now)) h.2 ∙ g.met.H.HoldBack.nothing_before (sectors d.sectors.memory.now))
+                (ap (λ x. g.H.HoldBack.holding.before x (sectors d.sectors.memory.now)) h.2 ∙ g.met.H.HoldBack.lawful.nothing_before (sectors d.sectors.memory.now))
                 h.1 refl,
             h.2,
           ))

@@ -10,7 +10,7 @@ returns-clause-meaning g c =
     let memory = c.args.self.now.sectors.memory.now in
     let after = c.tear.new.sectors.memory.now in
     cut_told _ c.args.supply (sectors after) _ _ (spare after) _
-    (g.met.H.HoldBack.cuts h c.args.tear c.args.self.now.supply c.args.supply (sectors memory) (spare memory))
+    (g.met.H.HoldBack.lawful.cuts h c.args.tear c.args.self.now.supply c.args.supply (sectors memory) (spare memory))
     c.tear.ensures.sectors
-    (ap (λ n. g.H.HoldBack.before n (sectors after)) c.nothing.ensures ∙ g.met.H.HoldBack.nothing_before (sectors after))
+    (ap (λ n. g.H.HoldBack.holding.before n (sectors after)) c.nothing.ensures ∙ g.met.H.HoldBack.lawful.nothing_before (sectors after))
     c.tear.ensures.spare
