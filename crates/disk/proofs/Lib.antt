@@ -1,3 +1,3 @@
 pub mod Chunks
-pub mod Cutting
+pub mod Meanings
 pub mod Zeros

@@ -7,7 +7,8 @@ use crate::fault::{Cause, DiskFault, Operation};
 use crate::size::{BadSize, is_right_size};
 use record::SECTOR_BYTES;
 
-// The memory itself: sector i is the 32 bytes from 32 × i on.
+// The memory itself: sector i is the 32 bytes from 32 × i on. They are found by number, since of a slice that was cut up by
+// `as_chunks_mut` no clause says what it ends as.
 #[derive(Drop)]
 pub struct Sectors<'a> {
     pub(crate) memory: &'a mut [u8],

@@ -26,7 +26,7 @@ pub struct Lease {
 impl Lease {
     ghost use Rattle.kind.specs.Time.{lease_of};
 
-    // A lease of 1 to 60,000 milliseconds; any other is denied.
+    // A lease of 1 to 60,000 milliseconds; any other is denied. The test is its own, as that of a serial kind.
     pub fn new(milliseconds: u64) -> Result<Lease, SettingFault>
         ensures { result ≡ lease_of milliseconds }
     {

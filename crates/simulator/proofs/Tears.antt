@@ -1,11 +1,10 @@
 -- The torn disk by its meaning: what it keeps, and what a cut leaves.
-use Rattle.std.proofs.Common.{◌≡◌, ℕ, zero, suc, ◌-◌, ◌%◌, Bool, true, false, cond, not, ◌&&◌, List, [], ◌∷◌, get_or, set, is_ok, IfOk, Some, None, Ok, Err, Option, Result, sym, refl, ap, ◌∙◌, arith, MatchResult}
-use Rattle.std.proofs.lemmas.List.{take-append-drop, set-set, set-get_or}
-use Rattle.std.specs.Str.{bytes_eq}
-use Rattle.record.specs.Sector.{sound}
-use Rattle.disk.specs.Devices.{torn, mixture, mended, before, left_sectors, torn_disk, holding}
-use Rattle.disk.specs.Meaning.{Meaning, Wrote, Cut, at}
+use Rattle.std.proofs.Common.{◌≡◌, ℕ, zero, suc, ◌-◌, cond, List, [], ◌∷◌, get_or, set, is_ok, IfOk, Some, None, Ok, Err, Option, Result, sym, refl, ap, ◌∙◌, arith, MatchResult}
+use Rattle.std.proofs.lemmas.List.{set-set, set-get_or}
+use Rattle.disk.specs.Devices.{torn, before, left_sectors, torn_disk, holding}
+use Rattle.disk.specs.Meaning.{Wrote, Cut, at}
 use Rattle.disk.specs.Tearing.{torn_equal}
+use Rattle.disk.proofs.Meanings.{same_parts}
 use Rattle.disk.specs.Memory.{sectors}
 use Rattle.disk.specs.declared.fault.DiskFault.{DiskFault}
 use Rattle.disk.specs.declared.memory.MemoryDisk.{MemoryDisk}
@@ -31,10 +30,6 @@ one_differs tear old (x ∷ xs) (suc i) =
 left_is : (tear : ℕ) (held : Option Held) (reading : List (List ℕ)) → left_sectors tear held reading ≡ torn_apart tear (before held reading) reading
 left_is tear None reading = all_same tear reading
 left_is tear (Some h) reading = one_differs tear h.old reading h.sector
-
--- two meanings with the same parts are the same
-same_parts : (reading reading' kept kept' : List (List ℕ)) (supply supply' : ℕ) (beyond beyond' : List ℕ) → reading ≡ reading' → kept ≡ kept' → supply ≡ supply' → beyond ≡ beyond' → ◌≡◌ {A = Meaning} (record { reading = reading; kept = kept; supply = supply; beyond = beyond }) (record { reading = reading'; kept = kept'; supply = supply'; beyond = beyond' })
-same_parts reading reading' kept kept' supply supply' beyond beyond' r k s b = rw (r, k, s, b)
 
 -- a cut leaves what the tear makes of what was kept and what was read
 pub exact_cut : (d d' : TornDisk) (tear supply : ℕ) → Cut (torn_disk d) supply (torn_disk d') → sectors d'.sectors.memory.now ≡ left_sectors tear d.held (sectors d.sectors.memory.now) → torn_disk d' ≡ cut_by Torn tear supply (torn_disk d)

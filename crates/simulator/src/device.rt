@@ -10,7 +10,7 @@ ghost use Rattle.simulator.specs.Devices.{meaning_of, shaped, make_of, cleared, 
 use disk::{Disk, DiskFault, FaithfulDisk, HoldBack, MemoryDisk, TornDisk};
 use record::SECTOR_BYTES;
 
-// Which disk it is.
+// Which disk it is. The trials have such an enum of their own: neither crate has need of the other.
 #[derive(Clone, Copy, PartialEq, Eq, Debug)]
 pub enum Make {
     Faithful,
@@ -109,7 +109,7 @@ fn over<'a>(make: Make, memory: &'a mut [u8], sectors: usize) -> Device<'a>
     }
 }
 
-// A memory in two parts: so many bytes, and the rest.
+// A memory in two parts: so many bytes, and the rest. Its clauses say of each part alone what std's say of both.
 fn split(memory: &mut [u8], count: usize) -> (&mut [u8], &mut [u8])
     requires { count ≤ length memory.old }
     ensures front { length result.0.now ≡ count }

@@ -18,7 +18,8 @@ fn column(rest: u64) -> u8
     }
 }
 
-// The columns before a number's last digit: the digits of the rest at the right end, spaces before them.
+// The columns before a number's last digit: the digits of the rest at the right end, spaces before them. One column a call, since
+// an invariant has no name for what a loop over `iter_mut().rev()` has written.
 fn fill_before(columns: &mut [u8], rest: u64)
     ensures { columns.new ≡ before (length columns.old) rest }
 {

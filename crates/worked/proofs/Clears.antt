@@ -1,18 +1,15 @@
 -- Cleared memory as sectors, none of which holds a record.
-use Rattle.std.proofs.Common.{◌≡◌, ℕ, ◌*◌, ◌≤◌, Bool, true, false, List, [], length, replicate, is_ok, Ok, Err, Result, sym, refl, ap, ◌∙◌, subst, arith, MatchResult}
+use Rattle.std.proofs.Common.{◌≡◌, ℕ, ◌*◌, ◌≤◌, Bool, true, false, List, [], length, is_ok, Ok, Err, Result, sym, refl, ap, ◌∙◌, subst, arith, MatchResult}
 use Rattle.std.proofs.lemmas.List.{length-replicate, get_or-replicate}
 use Rattle.std.proofs.lemmas.Bool.Decides.{nat_tests}
 use Rattle.record.specs.Crc.{crc, register, feed, shifts, shift}
 use Rattle.record.specs.Sector.{sound, little}
 use Rattle.disk.specs.Meaning.{Meaning}
 use Rattle.disk.specs.Memory.{right_size, sectors, spare}
-use Rattle.disk.proofs.Zeros.{sectors_zero, spare_zero}
+use Rattle.disk.proofs.Meanings.{same_parts}
+use Rattle.disk.proofs.Zeros.{bytes, sectors_zero, spare_zero}
 use Rattle.ring.specs.Left.{WithoutRecords}
 use Rattle.worked.specs.Blank.{zeros, cleared, BlankDisk}
-
--- so many zero bytes
-abbrev bytes : ℕ → List ℕ
-bytes n = replicate n 0
 
 -- antt computes the checksum of 28 zero bytes
 zero_not_sound : sound (bytes 32) ≡ false
@@ -31,18 +28,6 @@ cleared_without n supply least most =
     size : length (zeros n) ≡ n
     size = length-replicate n (bytes 32)
 
--- a meaning is its four parts
-by_parts :
-    (m : Meaning) (reading kept : List (List ℕ)) (supply : ℕ) (beyond : List ℕ) →
-    m.reading ≡ reading → m.kept ≡ kept → m.supply ≡ supply → m.beyond ≡ beyond →
-    m ≡ record { reading = reading; kept = kept; supply = supply; beyond = beyond }
-by_parts m reading kept supply beyond a b c d =
-    let of : List (List ℕ) → List (List ℕ) → ℕ → List ℕ → Meaning = λ x y z w. record { reading = x; kept = y; supply = z; beyond = w } in
-    ap (λ (x : List (List ℕ)). of x m.kept m.supply m.beyond) a
-    ∙ ap (λ (y : List (List ℕ)). of reading y m.supply m.beyond) b
-    ∙ ap (λ (z : ℕ). of reading kept z m.beyond) c
-    ∙ ap (λ (w : List ℕ). of reading kept supply w) d
-
 -- a disk over cleared memory of the right size is without records
 pub blank_disk :
     (size n supply : ℕ) (memory : List ℕ) (m : Meaning) → right_size size n ≡ true → memory ≡ bytes size →
@@ -55,7 +40,7 @@ blank_disk size n supply memory m e clear reading kept supplied beyond =
     let all : memory ≡ bytes (32 * n) = clear ∙ ap bytes fits in
     let cut_up : sectors memory ≡ zeros n = ap sectors all ∙ sectors_zero n in
     let is : m ≡ cleared n supply =
-    by_parts m (zeros n) (zeros n) supply [] (reading ∙ cut_up) (kept ∙ cut_up) supplied (beyond ∙ ap spare all ∙ spare_zero n) in
+    same_parts _ (zeros n) _ (zeros n) _ supply _ [] (reading ∙ cut_up) (kept ∙ cut_up) supplied (beyond ∙ ap spare all ∙ spare_zero n) in
     record { memory_zero = all; means = is; without = subst WithoutRecords (sym is) (cleared_without n supply least most) }
 
 -- of a result's value and of its error, by the test that it has a value

@@ -1,6 +1,7 @@
 -- What the disk means, by what its memory holds.
-use Rattle.std.proofs.Common.{length, refl, ap, ◌∙◌}
+use Rattle.std.proofs.Common.{length, refl}
 use Rattle.disk.specs.Memory.{sectors}
+use Rattle.disk.proofs.Meanings.{all_kept}
 use Rattle.worked.proofs.Clears.{blank_disk, by_test}
 use Rattle.worked.proofs.blank.blank_disk.Goals as goal
 
@@ -13,7 +14,7 @@ returns g c =
           by_test c.clear_and_make.result _ made.test made.cases
           (λ d e h. (
             blank_disk (length c.args.memory.now) _ _ _ _ e h.0 refl
-                (ap (λ x. g.H.HoldBack.holding.before x (sectors d.sectors.memory.now)) h.2 ∙ g.met.H.HoldBack.lawful.nothing_before (sectors d.sectors.memory.now))
+                (all_kept g.H.HoldBack.holding g.met.H.HoldBack.lawful d.held (sectors d.sectors.memory.now) h.2)
                 h.1 refl,
             h.2,
           ))
