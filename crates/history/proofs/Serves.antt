@@ -1,6 +1,6 @@
 -- One call more on a server, and a list of them.
-use Rattle.std.proofs.Common.{◌≡◌, ℕ, List, [], ◌∷◌, ◌++◌, take, Result, sym, refl, ap, ◌∙◌, subst, append-nil, MatchResult}
-use Rattle.std.proofs.lemmas.Result.{MatchResult-weaker}
+use Rattle.std.proofs.Common.{◌≡◌, ℕ, ◌+◌, ◌-◌, ◌<◌, List, [], ◌∷◌, ◌++◌, length, map, get_or, set, take, drop, Some, Result, sym, refl, ap, ◌∙◌, subst, append-nil, arith}
+use Rattle.std.proofs.lemmas.List.{take_more, length-set, length-drop, take-set, get_or-set_same, get_or-drop, drop-set-lt, drop-drop, map-append}
 use Rattle.record.specs.declared.numbers.Identifier.{Identifier}
 use Rattle.record.specs.declared.numbers.Reading.{Reading}
 use Rattle.record.specs.declared.numbers.Sequence.{Sequence}
@@ -11,11 +11,12 @@ use Rattle.server.specs.Promise.{Obeys, Reached, begun, gave, was_cut}
 use Rattle.server.specs.Rules.{Gave, WasCut, woken}
 use Rattle.server.specs.declared.fault.ServerFault.{ServerFault}
 use Rattle.server.specs.declared.state.State.{State}
-use Rattle.history.specs.Made.{call_of, answer_of, calls_of, answers_of, Made, Served, BrokeOff, Ran, RanInPart}
+use Rattle.history.specs.Made.{call_of, answer_of, turns_of, Made, Served, Ran}
 use Rattle.history.specs.declared.calls.Answer.{Answer}
 use Rattle.history.specs.declared.calls.Answer.TheVariants.{Give as AnswerGive, Cut as AnswerCut}
 use Rattle.history.specs.declared.calls.Call.{Call}
 use Rattle.history.specs.declared.calls.Call.TheVariants.{Give, Cut}
+use Rattle.history.specs.declared.calls.Turn.{Turn}
 use Rattle.history.proofs.Obeys.{every_history_obeys}
 
 module _ (k : Numbering) (start : Meaning) (past : List Event) (state after : State) (m m' : Meaning) (reached : Reached k start past state m) (call : Call) where
@@ -31,51 +32,41 @@ module _ (k : Numbering) (start : Meaning) (past : List Event) (state after : St
   cut_made tear supply answer is did =
       record { event = cut tear supply answer m'; asked = sym is; answered = refl; reached = was_cut reached did }
 
--- calls under way
-pub record Serving (k : Numbering) (start : Meaning) (past : List Event) (calls : List Call) (answers : List Answer) (state : State) (m : Meaning) : Type 0 where
+-- turns under way: those so far are answered
+pub record Serving (k : Numbering) (start : Meaning) (past : List Event) (turns : List Turn) (state : State) (m : Meaning) : Type 0 where
   pub events : List Event
-  pub asked : calls_of events ≡ calls
-  pub answered : answers_of events ≡ answers
+  pub answered : turns ≡ turns_of events
   pub reached : Reached k start (events ++ past) state m
 
-pub serving_more :
-    (k : Numbering) (start : Meaning) (past : List Event) (calls : List Call) (answers : List Answer) (state : State) (m : Meaning) (call : Call) (answer : Answer) (after : State) (m' : Meaning)
-    (so_far : Serving k start past calls answers state m) → Made k start (so_far.events ++ past) call answer after m' →
-    Serving k start past (calls ++ (call ∷ [])) (answers ++ (answer ∷ [])) after m'
-serving_more k start past calls answers state m call answer after m' so_far made =
+-- one more, by what a call extends, of a kind that stayed
+pub serving_step :
+    {k k' : Numbering} {start : Meaning} {past : List Event} {turns turns' : List Turn} {state : State} {m : Meaning} {call : Call} {answer : Answer} {after : State} {m' : Meaning} →
+    k' ≡ k → turns' ≡ turns ++ (record { call = call; answer = Some answer } ∷ []) →
+    ((begin : Meaning) (h : List Event) → Reached k' begin h state m → Made k' begin h call answer after m') →
+    Serving k start past turns state m → Serving k start past turns' after m'
+serving_step {k} {k'} {start} {past} {turns} {turns'} {state} {m} {call} {answer} {after} {m'} same more extends so_far =
+    let extends_k : (begin : Meaning) (h : List Event) → Reached k begin h state m → Made k begin h call answer after m' =
+    subst (λ (x : Numbering). (begin : Meaning) (h : List Event) → Reached x begin h state m → Made x begin h call answer after m') same extends in
+    let made = extends_k start (so_far.events ++ past) so_far.reached in
     record {
       events = made.event ∷ so_far.events;
-      asked = ap (λ (x : List Call). x ++ (call_of made.event ∷ [])) so_far.asked ∙ ap (λ (x : Call). calls ++ (x ∷ [])) made.asked;
-      answered = ap (λ (x : List Answer). x ++ (answer_of made.event ∷ [])) so_far.answered ∙ ap (λ (x : Answer). answers ++ (x ∷ [])) made.answered;
+      answered =
+          more
+          ∙ ap (λ (x : List Turn). x ++ (record { call = call; answer = Some answer } ∷ [])) so_far.answered
+          ∙ ap (λ (x : Call). turns_of so_far.events ++ (record { call = x; answer = Some answer } ∷ [])) (sym made.asked)
+          ∙ ap (λ (x : Answer). turns_of so_far.events ++ (record { call = call_of made.event; answer = Some x } ∷ [])) (sym made.answered);
       reached = made.reached;
     }
 
--- the same by what a call extends, of a kind that stayed
-pub serving_step :
-    {k k' : Numbering} {start : Meaning} {past : List Event} {calls calls' : List Call} {answers answers' : List Answer} {state : State} {m : Meaning} {call : Call} {answer : Answer} {after : State} {m' : Meaning} →
-    k' ≡ k → calls' ≡ calls ++ (call ∷ []) → answers' ≡ answers ++ (answer ∷ []) →
-    ((begin : Meaning) (h : List Event) → Reached k' begin h state m → Made k' begin h call answer after m') →
-    Serving k start past calls answers state m → Serving k start past calls' answers' after m'
-serving_step {k} {k'} {start} {past} {calls} {calls'} {answers} {answers'} {state} {m} {call} {answer} {after} {m'} same more-calls more-answers extends so_far =
-    let extends_k : (begin : Meaning) (h : List Event) → Reached k begin h state m → Made k begin h call answer after m' =
-    subst (λ (x : Numbering). (begin : Meaning) (h : List Event) → Reached x begin h state m → Made x begin h call answer after m') same extends in
-    subst (λ (x : List Call). Serving k start past x answers' after m') (sym more-calls)
-    (subst (λ (x : List Answer). Serving k start past (calls ++ (call ∷ [])) x after m') (sym more-answers)
-    (serving_more k start past calls answers state m call answer after m' so_far (extends_k start (so_far.events ++ past) so_far.reached)))
-
-pub serving_all :
-    {k : Numbering} {start : Meaning} {past : List Event} {calls calls' : List Call} {answers : List Answer} {state : State} {m : Meaning} → calls ≡ calls' →
-    Serving k start past calls answers state m → Serving k start past calls' answers state m
-serving_all {k} {start} {past} {calls} {calls'} {answers} {state} {m} e so_far = subst (λ (x : List Call). Serving k start past x answers state m) e so_far
-
 -- the theorem says what all of them obey
 pub served :
-    {k : Numbering} {start : Meaning} {past : List Event} {calls : List Call} {answers : List Answer} {state : State} {m : Meaning} → LawfulKind k →
-    Serving k start past calls answers state m → Served k start past calls answers state m
-served {k} {start} {past} {calls} {answers} {state} {m} lawful so_far =
+    {k : Numbering} {start : Meaning} {past : List Event} {turns made : List Turn} {state : State} {m : Meaning} → LawfulKind k →
+    map (λ turn. turn.call) made ≡ map (λ turn. turn.call) turns → Serving k start past made state m →
+    Served k start past turns made state m
+served {k} {start} {past} {turns} {made} {state} {m} lawful asked so_far =
     record {
       events = so_far.events;
-      asked = so_far.asked;
+      asked = asked;
       answered = so_far.answered;
       reached = so_far.reached;
       obeys = λ without. every_history_obeys k start (so_far.events ++ past) state m lawful without so_far.reached;
@@ -86,26 +77,58 @@ pub begun-at : (k : Numbering) (start : Meaning) (state : State) (m : Meaning) �
 begun-at k start state m is same =
     subst (λ (x : State). Reached k start [] x m) (sym is) (subst (λ (x : Meaning). Reached k start [] (woken k start) x) (sym same) begun)
 
-pub ran : (k : Numbering) (start : Meaning) (calls : List Call) (answers : List Answer) (state : State) (m : Meaning) → Served k start [] calls answers state m → Ran k start calls answers state m
-ran k start calls answers state m served =
-    let whole : served.events ++ [] ≡ served.events = append-nil served.events in
+-- what a list of calls on it promises
+pub ran :
+    {k k' : Numbering} {start : Meaning} {turns made : List Turn} {state after : State} {m m' : Meaning} → k' ≡ k →
+    ((begin : Meaning) (h : List Event) → Reached k' begin h state m → Served k' begin h turns made after m') →
+    Reached k start [] state m → Ran k start turns made after m'
+ran {k} {k'} {start} {turns} {made} {state} {after} {m} {m'} same promise reached =
+    let promise_k : (begin : Meaning) (h : List Event) → Reached k begin h state m → Served k begin h turns made after m' =
+    subst (λ (x : Numbering). (begin : Meaning) (h : List Event) → Reached x begin h state m → Served x begin h turns made after m') same promise in
+    let all = promise_k start [] reached in
+    let whole : all.events ++ [] ≡ all.events = append-nil all.events in
     record {
-      history = served.events;
-      asked = served.asked;
-      answered = served.answered;
-      reached = subst (λ (x : List Event). Reached k start x state m) whole served.reached;
-      obeys = λ without. subst (Obeys k start) whole (served.obeys without);
+      history = all.events;
+      asked = all.asked;
+      answered = all.answered;
+      reached = subst (λ (x : List Event). Reached k start x after m') whole all.reached;
+      obeys = λ without. subst (Obeys k start) whole (all.obeys without);
     }
 
--- what a list of calls on it promises, by what it answers
-pub ran_by_cases :
-    {X Y : Type 0} (r : Result X Y) (items : X → List Answer) (k k' : Numbering) (start : Meaning) (calls : List Call) (state after : State) (m m' : Meaning) → k' ≡ k →
-    Reached k start [] state m →
-    ((begin : Meaning) (h : List Event) → Reached k' begin h state m → MatchResult r (λ x. Served k' begin h calls (items x) after m') (λ _. BrokeOff k' begin h calls after m')) →
-    MatchResult r (λ x. Ran k start calls (items x) after m') (λ _. RanInPart k start calls after m')
-ran_by_cases r items k k' start calls state after m m' same reached promise =
-    let promise_k : (begin : Meaning) (h : List Event) → Reached k begin h state m → MatchResult r (λ x. Served k begin h calls (items x) after m') (λ _. BrokeOff k begin h calls after m') =
-    subst (λ (z : Numbering). (begin : Meaning) (h : List Event) → Reached z begin h state m → MatchResult r (λ x. Served z begin h calls (items x) after m') (λ _. BrokeOff z begin h calls after m')) same promise in
-    MatchResult-weaker r (promise_k start [] reached)
-    (λ x served. ran k start calls (items x) after m' served)
-    (λ y part. record { count = part.count; answers = part.answers; ran = ran k start (take part.count calls) part.answers after m' part.served })
+-- one turn of the loop over turns: the one at i is answered
+module _ (items turns : List Turn) (i : ℕ) (none turn : Turn) (taken : i < length items) (rest : drop i items ≡ drop i turns) (same : turn.call ≡ (get_or items i none).call) where
+  pub more_taken : take (i + 1) (set items i turn) ≡ take i items ++ (turn ∷ [])
+  more_taken =
+      take_more (set items i turn) i none (rw (length-set items i turn) taken)
+      ∙ ap (λ (xs : List Turn). xs ++ (get_or (set items i turn) i none ∷ [])) (take-set items i turn)
+      ∙ ap (λ (x : Turn). take i items ++ (x ∷ [])) (get_or-set_same items i turn none taken)
+
+  pub rest_dropped : drop (i + 1) (set items i turn) ≡ drop (i + 1) turns
+  rest_dropped =
+      drop-set-lt (i + 1) items i turn (omega arith)
+      ∙ sym (drop-drop 1 i items)
+      ∙ ap (drop 1) rest
+      ∙ drop-drop 1 i turns
+
+  here : get_or items i none ≡ get_or turns i none
+  here =
+      ap (λ (k : ℕ). get_or items k none) (omega arith)
+      ∙ sym (get_or-drop i items 0 none)
+      ∙ ap (λ (xs : List Turn). get_or xs 0 none) rest
+      ∙ get_or-drop i turns 0 none
+      ∙ ap (λ (k : ℕ). get_or turns k none) (omega arith)
+
+  in_turns : i < length turns
+  in_turns =
+      let l : length items - i ≡ length turns - i = sym (length-drop i items) ∙ ap length rest ∙ length-drop i turns in
+      omega arith
+
+  pub calls_kept :
+      map (λ (t : Turn). t.call) (take i items) ≡ map (λ (t : Turn). t.call) (take i turns) →
+      map (λ (t : Turn). t.call) (take (i + 1) (set items i turn)) ≡ map (λ (t : Turn). t.call) (take (i + 1) turns)
+  calls_kept before =
+      ap (map (λ (t : Turn). t.call)) more_taken
+      ∙ map-append (λ (t : Turn). t.call) (take i items) (turn ∷ [])
+      ∙ ap (λ (cs : List Call). cs ++ (turn.call ∷ [])) before
+      ∙ ap (λ (x : Call). map (λ (t : Turn). t.call) (take i turns) ++ (x ∷ [])) (same ∙ ap (λ (t : Turn). t.call) here)
+      ∙ sym (ap (map (λ (t : Turn). t.call)) (take_more turns i none in_turns) ∙ map-append (λ (t : Turn). t.call) (take i turns) (get_or turns i none ∷ []))

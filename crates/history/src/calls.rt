@@ -1,15 +1,14 @@
 // Calls on a server, one after the other, and what none of them can make false.
-ghost use Rattle.std.specs.Prelude.{◌≡◌, List, MatchResult};
+ghost use Rattle.std.specs.Prelude.{◌≡◌, List};
 ghost use Rattle.disk.specs.Meaning.{Meaning};
 ghost use Rattle.server.specs.History.{Event};
 ghost use Rattle.server.specs.Promise.{Reached, EveryHistoryObeys};
-ghost use Rattle.history.specs.Made.{Made, Served, BrokeOff, Ran, RanInPart};
+ghost use Rattle.history.specs.Made.{Made, Served, Ran};
 
 use disk::Disk;
 use kind::Kind;
 use record::{Identifier, Reading, Sequence};
 use server::{Server, ServerFault};
-use std::alloc::{AllocError, Global};
 
 // A call: a request of a series at a clock's reading, or a power cut with its tear and its new supply.
 #[derive(Clone, Copy, PartialEq, Eq, Debug)]
@@ -38,35 +37,30 @@ pub fn make<D: Disk, K: Kind>(server: &mut Server<D, K>, call: Call) -> Answer
     }
 }
 
-// Makes the calls in their order, and gives their answers. Where memory for the answers fails it breaks off.
-pub fn serve<D: Disk, K: Kind>(
-    heap: Global,
-    server: &mut Server<D, K>,
-    calls: &[Call],
-) -> Result<Vec<Answer>, AllocError>
+// One turn of a list: a call, and what it answered, once it was made.
+#[derive(Clone, Copy, PartialEq, Eq, Debug)]
+pub struct Turn {
+    pub call: Call,
+    pub answer: Option<Answer>,
+}
+
+// Makes the calls of the turns in their order, and writes each answer beside its call.
+pub fn serve<D: Disk, K: Kind>(server: &mut Server<D, K>, turns: &mut [Turn])
     ensures kind { server.new.kind ≡ server.old.kind }
-    ensures promise { (start : Meaning) (past : List Event) → Reached (K.numbering server.old.kind) start past server.old.state (D.meaning server.old.disk) → MatchResult result (λ answers. Served (K.numbering server.old.kind) start past calls.now answers.items server.new.state (D.meaning server.new.disk)) (λ _. BrokeOff (K.numbering server.old.kind) start past calls.now server.new.state (D.meaning server.new.disk)) }
+    ensures promise { (start : Meaning) (past : List Event) → Reached (K.numbering server.old.kind) start past server.old.state (D.meaning server.old.disk) → Served (K.numbering server.old.kind) start past turns.old turns.new server.new.state (D.meaning server.new.disk) }
 {
-    let mut answers = Vec::new(heap);
     // A loop, since each call changes the server: of what a closure changes a chain tells nothing.
-    for call in calls {
-        answers.push(make(server, *call))?;
+    for turn in turns {
+        turn.answer = Some(make(server, turn.call));
     }
-    Ok(answers)
 }
 
-// What a list of calls came to: the server after them, and their answers.
-pub struct Outcome<D, K> {
-    pub server: Server<D, K>,
-    pub answers: Result<Vec<Answer>, AllocError>,
-}
-
-// Puts a server together on a disk and makes the calls in their order.
-pub fn run<D: Disk, K: Kind>(heap: Global, disk: D, kind: K, calls: &[Call]) -> Outcome<D, K>
-    ensures kind { result.server.kind ≡ kind }
-    ensures promise { MatchResult result.answers (λ answers. Ran (K.numbering kind) (D.meaning disk) calls.now answers.items result.server.state (D.meaning result.server.disk)) (λ _. RanInPart (K.numbering kind) (D.meaning disk) calls.now result.server.state (D.meaning result.server.disk)) }
+// Puts a server together on a disk, makes the calls of the turns in their order, and gives the server back.
+pub fn run<D: Disk, K: Kind>(disk: D, kind: K, turns: &mut [Turn]) -> Server<D, K>
+    ensures kind { result.kind ≡ kind }
+    ensures promise { Ran (K.numbering kind) (D.meaning disk) turns.old turns.new result.state (D.meaning result.disk) }
 {
     let mut server = Server::new(disk, kind);
-    let answers = serve(heap, &mut server, calls);
-    Outcome { server, answers }
+    serve(&mut server, turns);
+    server
 }

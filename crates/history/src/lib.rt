@@ -3,4 +3,4 @@
 
 mod calls;
 
-pub use calls::{Answer, Call, Outcome, make, run, serve};
+pub use calls::{Answer, Call, Turn, make, run, serve};

@@ -1,11 +1,11 @@
 // A short history of a server on the torn disk: requests, a flush that goes dark, and cuts that tear a reservation or leave it.
 #![tactic(auto)]
 
-use disk::{Disk, TornDisk};
-use history::{Answer, Call, make};
-use kind::{Kind, SerialKind};
+use disk::TornDisk;
+use history::{Answer, Call, Turn, run};
+use kind::SerialKind;
 use record::{Identifier, Reading, SECTOR_BYTES, Sequence};
-use server::{Server, ServerFault};
+use server::ServerFault;
 use std::{fmt, io};
 
 const SECTORS: usize = 10;
@@ -14,31 +14,40 @@ const BLOCK_SIZE: u64 = 3;
 
 const SUPPLY: u64 = 5;
 
-// A request of a series; the serial kind has the same floor at every reading.
-fn give(series: u8) -> Call {
-    Call::Give {
-        series,
-        reading: Reading(0),
+// A request of a series, still to be made; the serial kind has the same floor at every reading.
+fn give(series: u8) -> Turn {
+    let reading = Reading(0);
+    Turn {
+        call: Call::Give { series, reading },
+        answer: None,
     }
 }
 
-// A call and what it answered.
-#[derive(Drop)]
-struct Told {
-    call: Call,
-    answer: Answer,
+// A power cut, still to be made.
+fn cut(tear: u64, supply: u64) -> Turn {
+    Turn {
+        call: Call::Cut { tear, supply },
+        answer: None,
+    }
 }
+
+// A turn as a line: the call and what it answered.
+#[derive(Drop)]
+struct Told(Turn);
 
 impl fmt::Display for Told {
     fn fmt<W: fmt::Write>(&self, f: &mut fmt::Formatter<W>) -> fmt::Result {
-        match self.call {
+        match self.0.call {
             Call::Give { series, reading: _ } => write!(f, "request of series {series}     | ")?,
             Call::Cut { tear, supply } => write!(f, "cut, tear {tear:>2}, supply {supply:>2} | ")?,
         }
-        match self.answer {
-            Answer::Give(Ok(Identifier(number))) => write!(f, "identifier {number}"),
-            Answer::Cut(Ok(Sequence(top))) => write!(f, "top record {top}"),
-            Answer::Give(Err(fault)) | Answer::Cut(Err(fault)) => write!(f, "{}", Denied(fault)),
+        match self.0.answer {
+            None => write!(f, "not made"),
+            Some(Answer::Give(Ok(Identifier(number)))) => write!(f, "identifier {number}"),
+            Some(Answer::Cut(Ok(Sequence(top)))) => write!(f, "top record {top}"),
+            Some(Answer::Give(Err(fault)) | Answer::Cut(Err(fault))) => {
+                write!(f, "{}", Denied(fault))
+            }
         }
     }
 }
@@ -57,45 +66,22 @@ impl fmt::Display for Denied {
     }
 }
 
-// Makes the calls in their order and prints each with its answer.
-fn tell<D: Disk, K: Kind>(
-    rt: &HostRuntime,
-    server: &mut Server<D, K>,
-    calls: &[Call],
-) -> io::Result<()> {
-    for call in calls {
-        let answer = make(server, *call);
-        let told = Told {
-            call: *call,
-            answer,
-        };
-        println!(rt; "{told}")?;
-    }
-    Ok(())
-}
-
 fn main(rt: HostRuntime) -> io::Result<()> {
     println!(rt;
         "Serial kind, blocks of {BLOCK_SIZE}; torn disk of {SECTORS} sectors; {SUPPLY} writes and flushes until the current fails."
     )?;
     println!(rt; "")?;
-    let calls = [
+    let mut turns = [
         give(2),
         give(2),
         give(2),
         give(2),
         give(5),
         give(2),
-        Call::Cut {
-            tear: 20,
-            supply: 3,
-        },
+        cut(20, 3),
         give(5),
         give(2),
-        Call::Cut {
-            tear: 32,
-            supply: 9,
-        },
+        cut(32, 9),
         give(2),
         give(5),
     ];
@@ -106,6 +92,9 @@ fn main(rt: HostRuntime) -> io::Result<()> {
     let Ok(kind) = SerialKind::new(BLOCK_SIZE) else {
         return println!(rt; "no kind");
     };
-    let mut server = Server::new(disk, kind);
-    tell(&rt, &mut server, &calls)
+    let _server = run(disk, kind, &mut turns);
+    for turn in turns {
+        println!(rt; "{}", Told(turn))?;
+    }
+    Ok(())
 }

@@ -1,11 +1,9 @@
 -- A server that is put together has made no calls; the rest is what serving them promises.
-use Rattle.std.proofs.Common.{vec_items, ap}
-use Rattle.history.proofs.Serves.{begun-at, ran_by_cases}
+use Rattle.std.proofs.Common.{ap}
+use Rattle.history.proofs.Serves.{begun-at, ran}
 use Rattle.history.proofs.calls.run.Goals as goal
 
 pub returns-clause-promise : goal.returns-clause-promise
 returns-clause-promise g c =
-    ran_by_cases c.serve-answers.result (λ answers. vec_items answers) _ _ (g.D.Disk.meaning c.args.disk) c.args.calls.now _ _ _ _
-    (ap g.K.Kind.numbering c.new-server.ensures.parts.1)
+    ran (ap g.K.Kind.numbering c.new-server.ensures.parts.1) c.serve.ensures.promise
     (begun-at _ (g.D.Disk.meaning c.args.disk) c.new-server.result.state (g.D.Disk.meaning c.new-server.result.disk) c.new-server.ensures.woken (ap g.D.Disk.meaning c.new-server.ensures.parts.0))
-    c.serve-answers.ensures.promise
