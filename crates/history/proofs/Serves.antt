@@ -11,7 +11,7 @@ use Rattle.server.specs.Promise.{Obeys, Reached, begun, gave, was_cut}
 use Rattle.server.specs.Rules.{Gave, WasCut, woken}
 use Rattle.server.specs.declared.fault.ServerFault.{ServerFault}
 use Rattle.server.specs.declared.state.State.{State}
-use Rattle.history.specs.Made.{call_of, answer_of, turns_of, Made, Served, Ran}
+use Rattle.history.specs.Made.{call_of, turns_of, Made, Served, Ran}
 use Rattle.history.specs.declared.calls.Answer.{Answer}
 use Rattle.history.specs.declared.calls.Answer.TheVariants.{Give as AnswerGive, Cut as AnswerCut}
 use Rattle.history.specs.declared.calls.Call.{Call}

@@ -1,7 +1,6 @@
 -- A turn makes one call more, and the theorem says what all of them obey.
-use Rattle.std.proofs.Common.{◌≡◌, ℕ, ◌<◌, List, length, map, take, refl, ap, ◌∙◌, subst, sym, None, Some, arith, get_or}
+use Rattle.std.proofs.Common.{◌≡◌, ◌<◌, List, length, map, take, refl, ap, ◌∙◌, subst, sym, None, Some, arith, get_or}
 use Rattle.std.proofs.lemmas.List.{take_all}
-use Rattle.history.specs.declared.calls.Call.{Call}
 use Rattle.history.specs.declared.calls.Call.TheVariants.{Give}
 use Rattle.history.specs.declared.calls.Turn.{Turn}
 use Rattle.history.proofs.Serves.{Serving, serving_step, served, more_taken, rest_dropped, calls_kept}
