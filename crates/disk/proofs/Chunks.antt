@@ -4,11 +4,7 @@ use borrow.Rule.Slice.PartMut.{put_mid}
 use Rattle.std.proofs.lemmas.List.{length-append, length-take, length-drop, drop-drop, take_at, drop_at, drop_all, take_rest, append-nil}
 use Rattle.std.proofs.lemmas.Bool.Decides.{nat_tests}
 use Rattle.disk.specs.Memory.{right_size, chunks, sectors, spare, stored}
-
-pub length-chunks : (n : ℕ) (xs : List ℕ) → length (chunks n xs) ≡ n
-unfolding chunks
-length-chunks zero xs = refl
-length-chunks (suc n) xs = ap suc (length-chunks n (drop 32 xs))
+use Rattle.disk.specs.Shape.{length-sectors}
 
 pub at-chunks : (n i : ℕ) (xs : List ℕ) → i < n → get_or (chunks n xs) i [] ≡ take 32 (drop (32 * i) xs)
 unfolding chunks
@@ -91,10 +87,6 @@ module _ (xs bytes : List ℕ) (i : ℕ) (h : i < length xs / 32) (b : length by
 pub loaded : (xs : List ℕ) (i n : ℕ) → n ≡ 32 → i < length xs / 32 → take n (drop (32 * i) xs) ≡ get_or (sectors xs) i []
 unfolding sectors
 loaded xs i n e h = ap (λ (k : ℕ). take k (drop (32 * i) xs)) e ∙ sym (at-chunks (length xs / 32) i xs h)
-
-pub length-sectors : (xs : List ℕ) → length (sectors xs) ≡ length xs / 32
-unfolding sectors
-length-sectors xs = length-chunks (length xs / 32) xs
 
 -- what is written over the part of the memory from the sector on
 pub put_is :

@@ -1,5 +1,5 @@
 -- A flat memory as a list of sectors of 32 bytes.
-use Rattle.std.specs.Prelude.{ℕ, zero, suc, ◌+◌, ◌*◌, ◌/◌, Bool, ◌&&◌, List, [], ◌∷◌, ◌++◌, length, take, drop, ◌==◌, nat_le}
+use Rattle.std.specs.Prelude.{ℕ, zero, suc, ◌+◌, ◌*◌, ◌/◌, ◌≤◌, Bool, ◌&&◌, List, [], ◌∷◌, ◌++◌, length, take, drop, ◌==◌, nat_le}
 
 -- the first n sectors of a memory
 unfoldable pub chunks : ℕ → List ℕ → List (List ℕ)
@@ -18,6 +18,10 @@ spare memory = drop (32 * (length memory / 32)) memory
 unfoldable pub stored : List ℕ → ℕ → List ℕ → List ℕ
 stored memory i bytes = take (32 * i) memory ++ (bytes ++ drop (32 * i + 32) memory)
 
--- a disk has 10 to 2,048 sectors, and its memory is theirs
+-- a disk has 10 to 2,048 sectors
+abbrev pub IsSize : ℕ → Type 0
+IsSize count = (10 ≤ count) × (count ≤ 2048)
+
+-- the same as a test, and its memory is theirs
 abbrev pub right_size : ℕ → ℕ → Bool
 right_size bytes count = nat_le 10 count && (nat_le count 2048 && bytes == 32 * count)

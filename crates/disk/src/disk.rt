@@ -1,5 +1,6 @@
 // What every disk promises.
 ghost use Rattle.std.specs.Prelude.{◌≡◌, MatchResult};
+ghost use Rattle.disk.specs.Memory.{IsSize};
 ghost use Rattle.disk.specs.Meaning.{Meaning, Shaped, count, found, answer_of, Wrote, Flushed, Cut};
 ghost use Rattle.disk.specs.declared.fault.Operation.TheVariants.{Write, Flush};
 
@@ -34,4 +35,7 @@ pub trait Disk {
 
     // Sectors have 32 bytes, and as many are kept as are read.
     ghost shaped: { (disk : Self) → Shaped (meaning disk) };
+
+    // There are 10 to 2,048 of them.
+    ghost sized: { (disk : Self) → IsSize (count (meaning disk)) };
 }

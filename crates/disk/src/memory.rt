@@ -2,7 +2,7 @@
 ghost use Rattle.std.specs.Prelude.{◌≡◌, length, is_ok, IfOk, if◌then◌else◌, MatchResult};
 ghost use Rattle.disk.specs.Devices.{memory_disk};
 ghost use Rattle.disk.specs.Meaning.{at, answer_of, Wrote, Flushed, Cut};
-ghost use Rattle.disk.specs.Shape.{all_shaped};
+ghost use Rattle.disk.specs.Shape.{all_shaped, all_sized};
 ghost use Rattle.disk.specs.Memory.{right_size, sectors as cut_up, stored};
 ghost use Rattle.disk.specs.declared.fault.Operation.TheVariants.{Write, Flush};
 
@@ -45,6 +45,8 @@ impl<H: HoldBack> Disk for MemoryDisk<'_, H> {
     ghost meaning = { memory_disk H.holding.before };
 
     ghost shaped = { λ disk. record { bytes = all_shaped disk.sectors.memory.now; keeps = H.lawful.before_count disk.held (cut_up disk.sectors.memory.now) } };
+
+    ghost sized = { λ disk. all_sized disk.sectors.memory.now disk.sectors.sized };
 
     fn sectors(&self) -> usize {
         self.sectors.count()

@@ -1,7 +1,7 @@
 // Memory handed in, as sectors of 32 bytes.
 ghost use Rattle.std.specs.Prelude.{◌≡◌, ◌/◌, ◌<◌, ◌≤◌, [], ◌++◌, length, drop, is_ok, IfOk, MatchResult, slice_index_or, slice_set};
 ghost use Rattle.disk.specs.Meaning.{found};
-ghost use Rattle.disk.specs.Memory.{right_size, sectors as cut_up, spare, stored};
+ghost use Rattle.disk.specs.Memory.{IsSize, right_size, sectors as cut_up, spare, stored};
 
 use crate::fault::{Cause, DiskFault, Operation};
 use crate::size::{BadSize, is_right_size};
@@ -12,6 +12,7 @@ use record::SECTOR_BYTES;
 #[derive(Drop)]
 pub struct Sectors<'a> {
     pub(crate) memory: &'a mut [u8],
+    ghost sized: { IsSize (length memory.now / 32) },
 }
 
 // Copies a sector over the first bytes of a part of the memory.

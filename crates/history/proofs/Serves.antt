@@ -4,7 +4,8 @@ use Rattle.std.proofs.lemmas.List.{take_more, length-set, length-drop, take-set,
 use Rattle.record.specs.declared.numbers.Identifier.{Identifier}
 use Rattle.record.specs.declared.numbers.Reading.{Reading}
 use Rattle.record.specs.declared.numbers.Sequence.{Sequence}
-use Rattle.disk.specs.Meaning.{Meaning}
+use Rattle.disk.specs.Meaning.{Meaning, count}
+use Rattle.disk.specs.Memory.{IsSize}
 use Rattle.kind.specs.Meaning.{Numbering, LawfulKind}
 use Rattle.server.specs.History.{Event, request, cut}
 use Rattle.server.specs.Promise.{Obeys, Reached, begun, gave, was_cut}
@@ -79,10 +80,10 @@ begun-at k start state m is same =
 
 -- what a list of calls on it promises
 pub ran :
-    {k k' : Numbering} {start : Meaning} {turns made : List Turn} {state after : State} {m m' : Meaning} → k' ≡ k →
+    {k k' : Numbering} {start : Meaning} {turns made : List Turn} {state after : State} {m m' : Meaning} → IsSize (count start) → k' ≡ k →
     ((begin : Meaning) (h : List Event) → Reached k' begin h state m → Served k' begin h turns made after m') →
     Reached k start [] state m → Ran k start turns made after m'
-ran {k} {k'} {start} {turns} {made} {state} {after} {m} {m'} same promise reached =
+ran {k} {k'} {start} {turns} {made} {state} {after} {m} {m'} sized same promise reached =
     let promise_k : (begin : Meaning) (h : List Event) → Reached k begin h state m → Served k begin h turns made after m' =
     subst (λ (x : Numbering). (begin : Meaning) (h : List Event) → Reached x begin h state m → Served x begin h turns made after m') same promise in
     let all = promise_k start [] reached in
@@ -92,7 +93,9 @@ ran {k} {k'} {start} {turns} {made} {state} {after} {m} {m'} same promise reache
       asked = all.asked;
       answered = all.answered;
       reached = subst (λ (x : List Event). Reached k start x after m') whole all.reached;
-      obeys = λ without. subst (Obeys k start) whole (all.obeys without);
+      obeys = λ unwritten.
+          subst (Obeys k start) whole
+          (all.obeys (record { least = sized.0; most = sized.1; kept = unwritten.kept; blank = unwritten.blank }));
     }
 
 -- one turn of the loop over turns: the one at i is answered

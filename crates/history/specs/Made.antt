@@ -2,7 +2,7 @@
 use Rattle.std.specs.Prelude.{◌≡◌, List, [], ◌∷◌, ◌++◌, map, Some}
 use Rattle.disk.specs.Meaning.{Meaning}
 use Rattle.kind.specs.Meaning.{Numbering}
-use Rattle.ring.specs.Left.{WithoutRecords}
+use Rattle.ring.specs.Left.{Unwritten, WithoutRecords}
 use Rattle.server.specs.History.{Event, request, cut}
 use Rattle.server.specs.Promise.{Obeys, Reached}
 use Rattle.server.specs.declared.state.State.{State}
@@ -52,4 +52,4 @@ pub record Ran (k : Numbering) (start : Meaning) (turns after : List Turn) (stat
   pub asked : map (λ turn. turn.call) after ≡ map (λ turn. turn.call) turns
   pub answered : after ≡ turns_of history
   pub reached : Reached k start history state m
-  pub obeys : WithoutRecords start → Obeys k start history
+  pub obeys : Unwritten start → Obeys k start history

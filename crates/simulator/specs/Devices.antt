@@ -1,9 +1,9 @@
 -- The disks that a request file may choose, by what a disk means.
 use Rattle.std.specs.Prelude.{ℕ, ◌-◌, List, [], ◌∷◌, replicate, refl, slice_set}
 use Rattle.disk.specs.Devices.{faithful, torn_disk, torn}
-use Rattle.disk.specs.Meaning.{Meaning, Shaped}
-use Rattle.disk.specs.Memory.{sectors}
-use Rattle.disk.specs.Shape.{all_shaped}
+use Rattle.disk.specs.Meaning.{Meaning, Shaped, count}
+use Rattle.disk.specs.Memory.{IsSize, sectors}
+use Rattle.disk.specs.Shape.{all_shaped, all_sized}
 use Rattle.disk.specs.Tearing.{before-count}
 use Rattle.simulator.specs.declared.device.Device.{Device}
 use Rattle.simulator.specs.declared.device.Device.TheVariants.{Faithful, Torn}
@@ -19,6 +19,11 @@ meaning_of (Torn d) = torn_disk d
 pub shaped : (d : Device) → Shaped (meaning_of d)
 shaped (Faithful d) = record { bytes = all_shaped d.sectors.memory.now; keeps = refl }
 shaped (Torn d) = record { bytes = all_shaped d.sectors.memory.now; keeps = before-count d.held (sectors d.sectors.memory.now) }
+
+-- 10 to 2,048 of them
+pub sized : (d : Device) → IsSize (count (meaning_of d))
+sized (Faithful d) = all_sized d.sectors.memory.now d.sectors.sized
+sized (Torn d) = all_sized d.sectors.memory.now d.sectors.sized
 
 -- which disk it is
 abbrev pub make_of : Device → Make

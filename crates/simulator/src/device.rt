@@ -5,7 +5,7 @@ ghost use Rattle.disk.specs.Devices.{memory_disk};
 ghost use Rattle.disk.specs.Memory.{right_size};
 ghost use Rattle.disk.specs.declared.fault.Operation.TheVariants.{Write, Flush};
 ghost use Rattle.simulator.specs.Stages.{room};
-ghost use Rattle.simulator.specs.Devices.{meaning_of, shaped, make_of, cleared, written, settled, cut_by};
+ghost use Rattle.simulator.specs.Devices.{meaning_of, shaped, sized, make_of, cleared, written, settled, cut_by};
 
 use disk::{Disk, DiskFault, FaithfulDisk, HoldBack, MemoryDisk, TornDisk};
 use record::SECTOR_BYTES;
@@ -33,6 +33,8 @@ impl Disk for Device<'_> {
     ghost meaning = { meaning_of };
 
     ghost shaped = { shaped };
+
+    ghost sized = { sized };
 
     fn sectors(&self) -> usize {
         match self {

@@ -1,19 +1,21 @@
 // The simulator: one call, a request line in and a print line out.
-ghost use Rattle.std.specs.Prelude.{◌≡◌, min};
+ghost use Rattle.std.specs.Prelude.{◌≡◌, ℕ, min, List};
 ghost use Rattle.simulator.specs.Columns.{NumbersInColumns};
-ghost use Rattle.simulator.specs.Stages.{view, awaits_disk, memory_of};
-ghost use Rattle.simulator.specs.Steps.{Steps};
+ghost use Rattle.simulator.specs.Devices.{meaning_of};
+ghost use Rattle.simulator.specs.Stages.{view, awaits_disk, memory_of, runs};
+ghost use Rattle.simulator.specs.Steps.{Steps, Gives};
 ghost use Rattle.simulator.specs.Takes.{Takes, Answered, stage_bytes};
 
 use crate::answer::{Answer, Denial, columns_of};
 use crate::any_kind::AnyKind;
-use crate::device::{Make, open};
+use crate::device::{Device, Make, open};
 use crate::print::{PRINT_BYTES, write_line};
-use crate::request::{Command, Item, command_in, fields_in};
+use crate::request::{Command, Fields, Item, command_in, fields_in};
 use crate::stage::{Stage, has_room};
 use disk::Disk;
 use kind::{Correction, Lease, SerialKind, TimeKind};
 use record::Reading;
+use server::Server;
 use std::mem;
 
 // A run over disk memory that was handed in.
@@ -31,6 +33,17 @@ fn asked_series(series: u64) -> u8
     ensures { result ≡ min series 255 }
 {
     u8::try_from(series).unwrap_or(u8::MAX)
+}
+
+// A request of a series at a reading.
+fn ask(server: &mut Server<Device<'_>, AnyKind>, fields: Fields) -> Result<Answer, Denial>
+    ensures { (spare : List ℕ) → Gives server.old.kind server.old.state (meaning_of server.old.disk) spare fields result (runs server.new.kind server.new.state (meaning_of server.new.disk) spare) }
+{
+    let series = fields.a;
+    server
+        .give(asked_series(series), Reading(fields.b))
+        .map(|identifier| Answer::Given { series, identifier })
+        .map_err(|fault| Denial::NotGiven { series, fault })
 }
 
 impl<'a> Simulator<'a> {
@@ -117,11 +130,7 @@ impl<'a> Simulator<'a> {
             }
             (Stage::Running { server, .. }, Command::Give) => {
                 let fields = fields_in(line, command)?;
-                let series = fields.a;
-                server
-                    .give(asked_series(series), Reading(fields.b))
-                    .map(|identifier| Answer::Given { series, identifier })
-                    .map_err(|fault| Denial::NotGiven { series, fault })
+                ask(server, fields)
             }
             (Stage::Running { server, .. }, Command::Cut) => {
                 let fields = fields_in(line, command)?;

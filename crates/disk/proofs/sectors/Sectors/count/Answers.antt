@@ -1,5 +1,5 @@
 use Rattle.std.proofs.Common.{sym, refl}
-use Rattle.disk.proofs.Chunks.{length-sectors}
+use Rattle.disk.specs.Shape.{length-sectors}
 use Rattle.disk.proofs.sectors.Sectors.count.Goals as goal
 
 pub returns : goal.returns
