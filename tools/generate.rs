@@ -446,6 +446,23 @@ fn time_runs(folder: &mut Folder, random: &mut Random) -> io::Result<()> {
 }
 
 /// The last millisecond of the time kind, asked for until its ranks run out.
+/// The serial kind at its top: 99,999 cuts lose a block of 10,000 each, the last block is smaller, and the requests past the top
+/// are denied, also after a cut.
+fn last_labels(folder: &mut Folder) -> io::Result<()> {
+    let mut script = Script::serial(0, 10, 10_000);
+    for _ in 0..99_999 {
+        script.give(0, 0);
+        script.cut(0, 999_999);
+    }
+    for _ in 0..10_001 {
+        script.give(0, 0);
+    }
+    script.cut(0, 9);
+    script.give(0, 0);
+    script.give(1, 0);
+    folder.add("last-labels", script)
+}
+
 fn last_ranks(folder: &mut Folder) -> io::Result<()> {
     for device in DEVICES {
         for (lease, correction, reading) in [
@@ -531,6 +548,7 @@ fn generate(path: PathBuf) -> io::Result<()> {
     serial_runs(&mut folder, &mut random)?;
     time_runs(&mut folder, &mut random)?;
     last_ranks(&mut folder)?;
+    last_labels(&mut folder)?;
     whole_reads(&mut folder)?;
     long_runs(&mut folder)
 }
