@@ -1,13 +1,11 @@
 -- A run by the rules is one that the contract of the call allows.
-use Rattle.std.proofs.Common.{◌≡◌, ℕ, zero, suc, ◌*◌, ◌^◌, ◌<◌, ◌≤◌, min, Bool, true, false, cond, ◌&&◌, leb, List, [], ◌∷◌, length, Some, None, Ok, Err, MatchBool, Option, Result, sym, refl, ap, ◌∙◌, subst, inl, inr, ⊎_elim, arith, leb-true}
-use Rattle.std.proofs.lemmas.Bool.{cases_lt, cases_eq}
+use Rattle.std.proofs.Common.{◌≡◌, ℕ, ◌*◌, ◌^◌, ◌<◌, ◌≤◌, min, Bool, true, false, cond, ◌&&◌, leb, List, length, Some, None, Ok, Err, MatchBool, Option, Result, sym, refl, ap, ◌∙◌, subst, inl, inr, ⊎_elim, arith, leb-true}
+use Rattle.std.proofs.lemmas.Bool.{cases_lt}
 use Rattle.std.proofs.lemmas.Option.{none-some}
-use Rattle.record.specs.Sector.{content}
 use Rattle.record.specs.declared.numbers.Identifier.{Identifier}
 use Rattle.record.specs.declared.numbers.Rank.{Rank}
 use Rattle.record.specs.declared.sector.Format.{Format}
-use Rattle.disk.specs.Meaning.{Meaning, Cut, at}
-use Rattle.disk.specs.declared.fault.Operation.TheVariants.{Write, Flush}
+use Rattle.disk.specs.Meaning.{Meaning, Cut}
 use Rattle.kind.specs.declared.fault.SettingFault.{SettingFault}
 use Rattle.kind.specs.declared.serial.SerialKind.{SerialKind}
 use Rattle.kind.specs.declared.time.Correction.{Correction}
@@ -17,26 +15,28 @@ use Rattle.kind.specs.Serial.{serial_kind_of}
 use Rattle.kind.specs.Time.{lease_of, correction_of, time_kind_of}
 use Rattle.kind.specs.Meaning.{Numbering}
 use Rattle.ring.specs.Left.{LawfulReservation}
-use Rattle.ring.specs.Operations.{Op, Went, performed, outcome, dark}
-use Rattle.ring.specs.Ring.{known, plan, gap, slot, holds_live, is_foreign, first_of, foreign_below, scanned, settled, Agrees, Step}
+use Rattle.ring.specs.Operations.{Op, Went, performed, outcome}
+use Rattle.ring.specs.Ring.{known, plan, gap, slot, holds_live, foreign_below, scanned, settled, Agrees, Step}
 use Rattle.ring.specs.Search.{refusal}
 use Rattle.ring.specs.declared.fault.RingFault.{RingFault}
 use Rattle.ring.specs.declared.fault.RingFault.TheVariants.{Size, Foreign, LiveInGap, Series, End, Exhausted, Disk, Interrupted}
 use Rattle.ring.specs.declared.ring.Ring.{Ring}
 use Rattle.ring.specs.declared.token.Reserved.{Reserved}
 use Rattle.ring.proofs.Leaves.{cut_within, reserved_whole, operations_counted}
+use Rattle.ring.proofs.Recovers.{native_below}
 use Rattle.ring.proofs.Reserves.{may_from}
 use Rattle.ring.proofs.Starts.{agrees_recovers, recovers_agrees}
+use Rattle.server.proofs.Requests.{stopped_tells}
 use Rattle.server.specs.Rules.{Decision, refuse, hand, reserve, decision, block_end, format, awake, stopped, woken, Does as GaveUp, Gave}
 use Rattle.server.specs.declared.fault.ServerFault.{ServerFault}
 use Rattle.server.specs.declared.state.State.{State}
 use Rattle.server.specs.declared.state.State.TheVariants.{Up as Awake, Down}
 use Rattle.server.specs.declared.state.Up.{Up}
 use Rattle.simulator.specs.Answers.{ends}
-use Rattle.simulator.specs.Devices.{cut_by}
+use Rattle.simulator.specs.Devices.{cut_by, make_for, room}
 use Rattle.simulator.specs.Kinds.{numbering_of}
 use Rattle.simulator.specs.Request.{command_in, fields_in}
-use Rattle.simulator.specs.Stages.{View, awaits_disk, awaits_kind, awaits_box, runs, has_ended, closed, make_for, room}
+use Rattle.simulator.specs.Stages.{View, awaits_disk, awaits_kind, awaits_box, runs, has_ended, closed}
 use Rattle.simulator.specs.Steps.{Done, denied, opened, with_make, with_serial, with_lease, with_time, with_correction, Asked, settles, gives, cuts, by_fields, asked, Comes, Does, Steps}
 use Rattle.simulator.specs.Takes.{counted, finished}
 use Rattle.simulator.specs.declared.answer.Answer.{Answer}
@@ -59,21 +59,6 @@ no_ok : {A B : Type 0} (x : A) (y : B) → ◌≡◌ {A = Result A B} (Err y) (O
 no_ok x y e = let z : ◌≡◌ {A = ℕ} 0 1 = cc in omega arith
 
 -- a server that wakes is well
-first-none : (x : Option ℕ) (b : Bool) (n : ℕ) → first_of x (cond b (Some n) None) ≡ None → (x ≡ None) × (b ≡ false)
-first-none None false n e = (refl, refl)
-first-none None true n e = absurd (none-some n (sym e))
-first-none (Some i) b n e = absurd (none-some i (sym e))
-
-native_below : (f : Format) (reading : List (List ℕ)) (n : ℕ) → foreign_below f reading n ≡ None → (k : ℕ) → k < n → is_foreign (content f k (at reading k)) ≡ false
-unfolding foreign_below
-native_below f reading zero e k l = absurd (omega arith)
-native_below f reading (suc n) e k l =
-    let t = first-none (foreign_below f reading n) (is_foreign (content f n (at reading n))) n e in
-    ⊎_elim
-    (λ same. subst (λ (i : ℕ). is_foreign (content f i (at reading i)) ≡ false) (sym same) t.1)
-    (λ ne. native_below f reading n t.0 k (omega arith))
-    (cases_eq k n)
-
 module _ (k : Numbering) (m : Meaning) (tags : k.tag < 256) (tops : k.top.0 < 2 ^ 53) (kept : m.kept ≡ m.reading) where
   abbrev on : Format
   on = format k m
@@ -103,14 +88,9 @@ module _ (k : Numbering) (m : Meaning) (tags : k.tag < 256) (tops : k.top.0 < 2 
   wakes_well = by_size _ _ refl refl
 
 -- a reservation that darkness stopped leaves a server that is down
-dark-stops : (value : Reserved) (steps : List Step) (supply : ℕ) (fault : RingFault) → outcome value steps supply ≡ Err fault → (u : Up) (m : Meaning) → WellState (stopped u fault) m
-unfolding outcome
-dark-stops value [] supply fault e u m = absurd (no_ok value fault (sym e))
-dark-stops value (step ∷ steps) zero fault e u m =
-    let q : dark Write step ≡ fault = cc in subst (λ (x : RingFault). WellState (stopped u x) m) q tt
-dark-stops value (step ∷ steps) (suc zero) fault e u m =
-    let q : dark Flush step ≡ fault = cc in subst (λ (x : RingFault). WellState (stopped u x) m) q tt
-dark-stops value (step ∷ steps) (suc (suc supply)) fault e u m = dark-stops value steps supply fault e u m
+dark_stops : (value : Reserved) (steps : List Step) (supply : ℕ) (fault : RingFault) → outcome value steps supply ≡ Err fault → (u : Up) (m : Meaning) → WellState (stopped u fault) m
+dark_stops value steps supply fault e u m =
+    subst (λ (x : RingFault). WellState (stopped u x) m) (sym (stopped_tells value steps supply fault e).1) tt
 
 -- a reservation that is refused leaves the server as it was, or down
 stopped_well : (u : Up) (m : Meaning) (fault : RingFault) → Agrees u.ring m → m.kept ≡ m.reading → WellState (stopped u fault) m
@@ -203,7 +183,7 @@ module _ (make : Make) (k : Numbering) (u : Up) (m : Meaning) (s : ℕ) (agrees 
         reserves =
             record {
               refused = λ fault some. absurd (none-some fault (sym none ∙ some));
-              reserves = λ _ _. record { agrees = agrees'; format = refl; answers = e; goes = went };
+              reserves = λ _. record { agrees = agrees'; format = refl; answers = e; goes = went };
             };
         answered = (refl, refl);
       },
@@ -216,11 +196,11 @@ module _ (make : Make) (k : Numbering) (u : Up) (m : Meaning) (s : ℕ) (agrees 
         reserves =
             record {
               refused = λ other some. absurd (none-some other (sym none ∙ some));
-              reserves = λ _ _. record { agrees = agrees'; format = refl; answers = e; goes = went };
+              reserves = λ _. record { agrees = agrees'; format = refl; answers = e; goes = went };
             };
         answered = (refl, refl);
       },
-      (level_by make ops m level, dark-stops value steps m.supply fault e u m'),
+      (level_by make ops m level, dark_stops value steps m.supply fault e u m'),
     )
 
   by_refusal : (rank : Rank) (o : Option RingFault) → refusal u.ring.format u.ring.known.top.0 s (block_end k rank) ≡ o → IsAllowed k u m s (reserve rank) (reserved_by make k u m s rank o)
@@ -232,7 +212,7 @@ module _ (make : Make) (k : Numbering) (u : Up) (m : Meaning) (s : ℕ) (agrees 
       reserves =
           record {
             refused = λ other some. (let q : fault ≡ other = cc in ap Err q, refl, refl);
-            reserves = λ _ none. absurd (none-some fault (sym none ∙ e));
+            reserves = λ none. absurd (none-some fault (sym none ∙ e));
           };
       answered = (refl, refl);
     },

@@ -10,4 +10,4 @@ use Rattle.cases.specs.Table.{EveryCaseHolds}
 
 pub every_case_holds : EveryCaseHolds
 unfolding crc register feed shifts shift little bytes_of all_zero sound parts content body encoded performed outcome slot top_below top live_below live plan foreign_below before justified printed print_from
-every_case_holds = (refl, (refl, (refl, (refl, (refl, (refl, (refl, (refl, (λ u. refl, (refl, (λ u. refl, (refl, (refl, tt)))))))))))))
+every_case_holds = (refl, (refl, (refl, (refl, (refl, (refl, (refl, (refl, (refl, (λ u. refl, (refl, (λ u. refl, (refl, (refl, tt))))))))))))))

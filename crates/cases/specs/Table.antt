@@ -16,7 +16,7 @@ use Rattle.simulator.specs.Stages.{runs}
 use Rattle.simulator.specs.declared.any_kind.AnyKind.{AnyKind}
 use Rattle.simulator.specs.declared.any_kind.AnyKind.TheVariants.{Serial, Time}
 use Rattle.simulator.specs.declared.device.Make.TheVariants.{Faithful}
-use Rattle.cases.specs.Run.{Run, begun, print_from}
+use Rattle.cases.specs.Run.{Run, print_from, print_of_file}
 
 -- lines of text, each with its line feed
 abbrev pub text : List (List ℕ) → List ℕ
@@ -38,11 +38,12 @@ refusal_of (refuse fault) = number_of fault
 refusal_of (hand rank) = 0
 refusal_of (reserve rank) = 0
 
--- what a case says: request lines and the lines that a run prints for them; bytes and their checksum; a byte and its
--- correction; a correction byte, a raw reading and its floor; the same, and the number that a request is denied with;
--- box, millisecond, series, step and their identifier
+-- what a case says: a memory, the lines of a request file and the lines of its print; the same of a run that has begun; bytes
+-- and their checksum; a byte and its correction; a correction byte, a raw reading and its floor; the same, and the number that
+-- a request is denied with; box, millisecond, series, step and their identifier
 pub data Case : Type 0 where
-  prints : Run → List (List ℕ) → List (List ℕ) → Case
+  prints : List ℕ → List (List ℕ) → List (List ℕ) → Case
+  goes_on : Run → List (List ℕ) → List (List ℕ) → Case
   sums : List ℕ → ℕ → Case
   corrects : ℕ → ℤ → Case
   has_floor : ℕ → ℕ → ℕ → Case
@@ -51,7 +52,8 @@ pub data Case : Type 0 where
 
 -- a case holds by the rules
 abbrev pub Holds : Case → Type 0
-Holds (prints run requests lines) = print_from (length requests) (text requests) run ≡ text lines
+Holds (prints memory requests lines) = print_of_file memory (text requests) ≡ text lines
+Holds (goes_on run requests lines) = print_from (length requests) (text requests) run ≡ text lines
 Holds (sums bytes sum) = crc bytes ≡ sum
 Holds (corrects byte seconds) = seconds_of (record { 0 = byte }) ≡ seconds
 Holds (has_floor byte raw floor) = time_floor (box_with 0 byte) (record { 0 = raw }) ≡ Some (record { 0 = floor })
@@ -60,9 +62,9 @@ Holds (denies byte raw number) =
 Holds (identifies box ms series step identifier) =
     time_identifier (box_with box 0) series (record { 0 = ms * 4096 + step }) ≡ record { 0 = identifier }
 
--- a memory of ten sectors
-abbrev pub start : Run
-start = begun (replicate 320 0)
+-- a memory of more than ten sectors, not cleared
+abbrev pub memory : List ℕ
+memory = replicate 400 7
 
 -- ten sectors with one serial record: series 2 has reserved all ranks but the last
 abbrev pub one_record : List (List ℕ)
@@ -85,12 +87,13 @@ near_the_top =
 -- the cases
 abbrev pub table : List Case
 table =
-    prints start
+    prints memory
     (codes "D    0            10" ∷ codes "S    3             0" ∷ codes "G    2             0" ∷ codes "C    0             1" ∷ codes "G    2             0" ∷ codes "C    0             9" ∷ codes "G    2             0" ∷ [])
     (codes "     1   0  0                   0" ∷ codes "     2   0  0                   0" ∷ codes "     3   2  0                   1" ∷ codes "     4   0  0                   1" ∷ codes "     5   2 12                   2" ∷ codes "     6   0  0                   2" ∷ codes "     7   2  0                   7" ∷ [])
-    ∷ prints start
+    ∷ prints memory
     (codes "D    1            10" ∷ codes "S    3             0" ∷ codes "G    2             0" ∷ codes "C    0             1" ∷ codes "G    2             0" ∷ codes "C    0             9" ∷ codes "G    2             0" ∷ [])
     (codes "     1   0  0                   0" ∷ codes "     2   0  0                   0" ∷ codes "     3   2  0                   1" ∷ codes "     4   0  0                   1" ∷ codes "     5   2 12                   2" ∷ codes "     6   0  0                   1" ∷ codes "     7   2  0                   4" ∷ [])
+    ∷ prints memory [] []
     ∷ sums (codes "123456789") 0xCBF43926
     ∷ sums [] 0
     ∷ corrects 127 (pos 127)
@@ -101,7 +104,7 @@ table =
     ∷ has_floor 0 2199023255551 9007199254736896
     ∷ denies 0 2199023255552 9
     ∷ identifies 1 1000 3 5 4194349061
-    ∷ prints near_the_top
+    ∷ goes_on near_the_top
     (codes "G    2             0" ∷ codes "G    2             0" ∷ [])
     (codes "     3   2  0           999999999" ∷ codes "     4   2 10                   0" ∷ [])
     ∷ []

@@ -9,10 +9,10 @@ ghost use Rattle.cases.specs.Table.{table, EveryCaseHolds};
 fn rows() -> usize
     ensures { result ≡ length table }
 {
-    13
+    14
 }
 
-// How many cases the table has, each of which holds: two request files and their whole prints, checksums, corrections,
+// How many cases the table has, each of which holds: three request files and their whole prints, checksums, corrections,
 // floors, an identifier, and the last serial identifier. A file's print is computed by definitions; each line does what the
 // contract of the simulator's call allows.
 pub fn worked_cases() -> usize

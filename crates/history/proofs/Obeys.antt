@@ -1,5 +1,5 @@
 -- Every history that is reached obeys the laws: one call more, and then any number of them.
-use Rattle.std.proofs.Common.{◌≡◌, ℕ, zero, suc, ◌+◌, ◌-◌, ◌*◌, ◌^◌, ◌<◌, ◌≤◌, max, Bool, true, false, cond, ◌&&◌, eqb, ltb, leb, List, [], ◌∷◌, length, Some, None, Ok, Err, Option, Result, sym, refl, ap, ◌∙◌, subst, ⊎_elim, arith}
+use Rattle.std.proofs.Common.{◌≡◌, ℕ, ◌+◌, ◌-◌, ◌*◌, ◌^◌, ◌<◌, ◌≤◌, max, Bool, true, false, cond, ◌&&◌, eqb, ltb, leb, List, [], ◌∷◌, length, Some, None, Ok, Err, Option, Result, sym, refl, ap, ◌∙◌, subst, ⊎_elim, arith}
 use Rattle.std.proofs.lemmas.Bool.{cases_eq, cases_lt, eq-eqb, ne_eqb, or_left, cond-false, cond-true, and_right, lt-ltb, le-leb, ltb-true, ltb-false, leb-true, leb-false, lt-leb}
 use Rattle.record.specs.declared.numbers.Identifier.{Identifier}
 use Rattle.record.specs.declared.numbers.Rank.{Rank}
@@ -9,10 +9,8 @@ use Rattle.record.specs.declared.sector.Format.{Format}
 use Rattle.disk.specs.Meaning.{Meaning}
 use Rattle.kind.specs.Meaning.{Numbering, LawfulKind}
 use Rattle.ring.specs.Left.{WithoutRecords}
-use Rattle.ring.specs.Operations.{outcome}
 use Rattle.ring.specs.Ring.{plan, known, known_end, Step}
 use Rattle.ring.specs.Search.{Ended, refusal}
-use Rattle.ring.specs.declared.fault.Interrupted.{Interrupted as Stop}
 use Rattle.ring.specs.declared.fault.RingFault.{RingFault}
 use Rattle.ring.specs.declared.fault.RingFault.TheVariants.{Exhausted, Interrupted}
 use Rattle.ring.specs.declared.known.Known.{Known}
@@ -22,6 +20,7 @@ use Rattle.ring.proofs.Leaves.{operations_counted}
 use Rattle.ring.proofs.Starts.{known_end_is}
 use Rattle.server.specs.History.{Event, request, cut, latest, end_in, next, rank_of, floor_of, or_zero, is_lawful, floor_since, dark, reserves, needs_block, numbers_suffice, wanted, asked, writes, stood, too_little, block_to, standing, top_record}
 use Rattle.server.specs.Promise.{Ground, went_dark, above_top, run_short, RequestLaws, CutLaws, Obeys, Reached, begun, gave, was_cut, EveryHistoryObeys}
+use Rattle.server.proofs.Requests.{stopped_tells}
 use Rattle.server.specs.Rules.{format, block_end, next_in, refuse, hand, reserve, by_rank, by_floor, stopped, Answered, Reserving, Does, Gave, WasCut}
 use Rattle.server.specs.declared.fault.ServerFault.{ServerFault}
 use Rattle.server.specs.declared.fault.ServerFault.TheVariants.{Down as WasDown, Series as NoSeries, Reading, AboveTop, Ring as OfRing}
@@ -115,20 +114,6 @@ moved k start past s reading answer a after st m n ea es em h =
 refusal_is : (f : Format) (t s : ℕ) (end : Rank) (b : Bool) → s < 8 → 0 < end.0 → end.0 ≤ f.top.0 + 1 → leb (t + 8) (2 ^ 62 - 1) ≡ b → refusal f t s end ≡ cond b None (Some Exhausted)
 refusal_is f t s end b below some upper e =
     rw (lt-ltb s 8 below, lt-ltb 0 end.0 some, le-leb end.0 (f.top.0 + 1) upper, e) refl
-
--- a reservation that was stopped tells the operation that stopped it
-stopped_tells : (value : Reserved) (steps : List Step) (supply : ℕ) (fault : RingFault) → outcome value steps supply ≡ Err fault → (stop : Stop) × (fault ≡ Interrupted stop)
-unfolding outcome
-stopped_tells value [] supply fault e = absurd (let z : ◌≡◌ {A = ℕ} 0 1 = cc in omega arith)
-stopped_tells value (step ∷ steps) zero fault e = (_, sym (err_same e))
-  where
-    err_same : {x y : RingFault} → ◌≡◌ {A = Result Reserved RingFault} (Err x) (Err y) → x ≡ y
-    err_same h = cc
-stopped_tells value (step ∷ steps) (suc zero) fault e = (_, sym (err_same e))
-  where
-    err_same : {x y : RingFault} → ◌≡◌ {A = Result Reserved RingFault} (Err x) (Err y) → x ≡ y
-    err_same h = cc
-stopped_tells value (step ∷ steps) (suc (suc supply)) fault e = stopped_tells value steps supply fault e
 
 -- a request to a server that is up
 module _ (k : Numbering) (lawful : LawfulKind k) (start : Meaning) (past : List Event) (u : Up) (inv : IsUp k start past u) (s : ℕ) (reading : ClockReading) (answer : Result Identifier ServerFault) (after : State) (m' : Meaning) where
@@ -261,7 +246,7 @@ module _ (k : Numbering) (lawful : LawfulKind k) (start : Meaning) (past : List 
       by_numbers up_to_lem outside true numbers r =
           reserving up_to_lem outside numbers r.ring r.answer
           (subst (λ (x : Format). Ended x s (block_end k (record { 0 = rank })) m r.answer r.ring m') inv.form
-          (r.reserves.reserves inv.agrees (not_refused up_to_lem true numbers)))
+          (r.reserves.reserves (not_refused up_to_lem true numbers)))
           r.answered
       by_numbers up_to_lem outside false numbers r =
           let told = r.reserves.refused Exhausted (not_refused up_to_lem false numbers) in

@@ -27,7 +27,7 @@ scan_tells f reading x k e = grind arith
 first-none : (x : Option ℕ) (b : Bool) (n : ℕ) → first_of x (cond b (Some n) None) ≡ None → (x ≡ None) × (b ≡ false)
 first-none x b n e = grind arith
 
-native_below : (f : Format) (reading : List (List ℕ)) (n : ℕ) → foreign_below f reading n ≡ None → (k : ℕ) → k < n → is_foreign (content f k (at reading k)) ≡ false
+pub native_below : (f : Format) (reading : List (List ℕ)) (n : ℕ) → foreign_below f reading n ≡ None → (k : ℕ) → k < n → is_foreign (content f k (at reading k)) ≡ false
 unfolding foreign_below
 native_below f reading zero e k l = absurd (omega arith)
 native_below f reading (suc n) e k l =

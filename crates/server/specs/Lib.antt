@@ -1,4 +1,5 @@
 pub mod Faults
 pub mod History
+pub mod Knows
 pub mod Promise
 pub mod Rules

@@ -8,7 +8,7 @@ use Rattle.record.specs.declared.numbers.Sequence.{Sequence}
 use Rattle.record.specs.declared.sector.Format.{Format}
 use Rattle.disk.specs.Meaning.{Meaning, Cut, count}
 use Rattle.kind.specs.Meaning.{Numbering}
-use Rattle.ring.specs.Ring.{known_end, recovered, Agrees}
+use Rattle.ring.specs.Ring.{known_end, recovered}
 use Rattle.ring.specs.Search.{Ended, refusal}
 use Rattle.ring.specs.declared.fault.RingFault.{RingFault}
 use Rattle.ring.specs.declared.fault.RingFault.TheVariants.{Size, Foreign, LiveInGap, Series as NoSeries, End, Exhausted, Disk, Interrupted}
@@ -35,6 +35,10 @@ next_in nexts s = slice_index_or nexts s (record { 0 = 0 })
 
 abbrev pub with_next : Up → ℕ → Rank → Up
 with_next u s next = record { ring = u.ring; nexts = slice_set u.nexts s next }
+
+-- the server with another ring
+abbrev pub with_ring : Up → Ring → Up
+with_ring u ring = record { ring = ring; nexts = u.nexts }
 
 -- what a request asks for: it is refused, or a rank is handed out of the block in hand, or a block is reserved for it
 pub data Decision : Type 0 where
@@ -83,8 +87,7 @@ pub record Reserves (ring : Ring) (m : Meaning) (s : ℕ) (end : Rank) (answer :
   pub refused :
       (fault : RingFault) → refusal ring.format ring.known.top.0 s end ≡ Some fault →
       (answer ≡ Err fault) × (ring' ≡ ring) × (m' ≡ m)
-  pub reserves :
-      Agrees ring m → refusal ring.format ring.known.top.0 s end ≡ None → Ended ring.format s end m answer ring' m'
+  pub reserves : refusal ring.format ring.known.top.0 s end ≡ None → Ended ring.format s end m answer ring' m'
 
 -- the state after a rank was given: the series' next rank is one above it
 abbrev pub given : Up → ℕ → Rank → State
@@ -93,7 +96,7 @@ given u s rank = Awake (with_next u s (record { 0 = rank.0 + 1 }))
 -- what the ring's answer makes of a request: the rank is given after the flush; a denial is passed on
 abbrev pub Answered : Numbering → Up → ℕ → Rank → Ring → Result Reserved RingFault → Result Identifier ServerFault → State → Type 0
 Answered k u s rank ring (Ok reserved) r after =
-    (r ≡ Ok (k.identifier s rank)) × (after ≡ given (record { ring = ring; nexts = u.nexts }) s rank)
+    (r ≡ Ok (k.identifier s rank)) × (after ≡ given (with_ring u ring) s rank)
 Answered k u s rank ring (Err fault) r after = (r ≡ Err (OfRing fault)) × (after ≡ stopped u fault)
 
 -- a reservation, and what its answer makes of the request
@@ -103,16 +106,17 @@ pub record Reserving (k : Numbering) (u : Up) (m : Meaning) (s : ℕ) (rank : Ra
   pub reserves : Reserves u.ring m s (block_end k rank) answer ring m'
   pub answered : Answered k u s rank ring answer r after
 
--- the same before the rank is given: the server that has the block in hand, or the denial
-abbrev pub HasBlock : Up → Ring → State → Result Reserved RingFault → Result Up ServerFault → State → Type 0
-HasBlock u ring before (Ok reserved) r after = (r ≡ Ok (record { ring = ring; nexts = u.nexts })) × (after ≡ before)
-HasBlock u ring before (Err fault) r after = (r ≡ Err (OfRing fault)) × (after ≡ stopped u fault)
+-- the state once the ring has answered, before the rank is given: the block is in hand, or the denial leaves what it leaves
+abbrev pub settled : Up → Ring → Result Reserved RingFault → State
+settled u ring (Ok reserved) = Awake (with_ring u ring)
+settled u ring (Err fault) = stopped u fault
 
-pub record Extended (k : Numbering) (u : Up) (before : State) (m : Meaning) (s : ℕ) (rank : Rank) (r : Result Up ServerFault) (after : State) (m' : Meaning) : Type 0 where
+-- a reservation that is done: the server that has the block in hand
+pub record Extended (k : Numbering) (u : Up) (m : Meaning) (s : ℕ) (rank : Rank) (extended : Up) (m' : Meaning) : Type 0 where
   pub ring : Ring
-  pub answer : Result Reserved RingFault
-  pub reserves : Reserves u.ring m s (block_end k rank) answer ring m'
-  pub has : HasBlock u ring before answer r after
+  pub reserved : Reserved
+  pub reserves : Reserves u.ring m s (block_end k rank) (Ok reserved) ring m'
+  pub has : extended ≡ with_ring u ring
 
 -- what a request does on a server that is up, by what it asks for
 abbrev pub Does : Numbering → Up → Meaning → ℕ → Decision → Result Identifier ServerFault → State → Meaning → Type 0

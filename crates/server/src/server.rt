@@ -1,21 +1,24 @@
 // The server over any disk and any kind.
-ghost use Rattle.std.specs.Prelude.{◌≡◌, ◌≤◌};
-ghost use Rattle.server.specs.Rules.{block_end, woken, Gave, Extended, WasCut};
+ghost use Rattle.std.specs.Prelude.{◌≡◌, ◌≤◌, Err, MatchResult};
+ghost use Rattle.server.specs.Knows.{Knows, KnowsDisk, KnowsDisk-prop};
+ghost use Rattle.server.specs.Rules.{block_end, woken, Extended, Reserving, Gave, WasCut};
 
 use crate::fault::ServerFault;
-use crate::state::{State, Up, stop, wake};
+use crate::state::{State, Up, settle, wake};
 use disk::Disk;
 use kind::Kind;
 use record::{Identifier, Rank, Reading, Sequence};
 use ring::Ring;
 
-// A disk, a kind, and whether the server is up. The kind stays: each call says so, since that ties two values of this type
-// together, which an invariant of one cannot.
+// A disk, a kind, and whether the server is up. While it is, its ring knows what the disk reads: no server is without that,
+// so each contract speaks of every server there is. The kind stays: each call says so, since that ties two values of this
+// type together, which a fact about one cannot.
 #[derive(Drop)]
-pub struct Server<D, K> {
+pub struct Server<D: Disk, K: Kind> {
     pub(crate) disk: D,
     pub(crate) kind: K,
     pub(crate) state: State,
+    ghost knows: { KnowsDisk (K.numbering kind) state (D.meaning disk) } by { KnowsDisk-prop (K.numbering kind) state (D.meaning disk) },
 }
 
 impl<D: Disk, K: Kind> Server<D, K> {
@@ -38,20 +41,19 @@ impl<D: Disk, K: Kind> Server<D, K> {
     }
 
     // Reserves a block from a rank on, and gives the server that has it in hand.
+    #[tactic(auto, using(crate::proofs::Requests::knows_settled))]
     fn extend(&mut self, up: Up, series: u8, rank: Rank) -> Result<Up, ServerFault>
-        requires { rank.0 ≤ (K.numbering self.old.kind).top.0 }
+        requires lawful { rank.0 ≤ (K.numbering self.old.kind).top.0 }
+        requires knows { Knows (K.numbering self.old.kind) up.ring (D.meaning self.old.disk) }
         ensures kind { self.new.kind ≡ self.old.kind }
-        ensures reserves { Extended (K.numbering self.old.kind) up self.old.state (D.meaning self.old.disk) series rank result self.new.state (D.meaning self.new.disk) }
+        ensures reserves { MatchResult result (λ extended. Extended (K.numbering self.old.kind) up (D.meaning self.old.disk) series rank extended (D.meaning self.new.disk)) (λ fault. Reserving (K.numbering self.old.kind) up (D.meaning self.old.disk) series rank (Err fault) self.new.state (D.meaning self.new.disk)) }
     {
-        let Up { mut ring, nexts } = up;
+        let mut ring = up.ring;
         let end = self.block_end(rank);
-        match ring.reserve(&mut self.disk, series, end) {
-            Ok(_) => Ok(Up { ring, nexts }),
-            Err(fault) => {
-                self.state = stop(up, fault);
-                Err(ServerFault::from(fault))
-            }
-        }
+        let reserved = ring.reserve(&mut self.disk, series, end);
+        self.state = settle(up, ring, reserved);
+        reserved?;
+        Ok(up.with_ring(ring))
     }
 
     // An identifier of a series at a clock's reading: its rank is the larger of next and the reading's floor.

@@ -1,9 +1,9 @@
 // Whether the server is up, and what it has in hand.
 ghost use Rattle.std.specs.Prelude.{◌≡◌, ◌<◌};
-ghost use Rattle.server.specs.Rules.{awake, next_in, with_next, stopped};
+ghost use Rattle.server.specs.Rules.{awake, next_in, with_next, with_ring, settled};
 
 use record::Rank;
-use ring::{Ring, RingFault};
+use ring::{Reserved, Ring, RingFault};
 
 // A server that is up: its ring, and of each series the next rank of the block in hand. The block's end is the series' end,
 // which the ring knows; the ring knows nothing of ranks that are given.
@@ -28,6 +28,14 @@ impl Up {
         ensures { result ≡ next_in self.nexts series }
     {
         self.nexts[usize::from(series)]
+    }
+
+    // The same server with another ring.
+    pub(crate) fn with_ring(self, ring: Ring) -> Up
+        ensures { result ≡ with_ring self ring }
+    {
+        let Up { ring: _, nexts } = self;
+        Up { ring, nexts }
     }
 
     // The same server with another next rank of a series.
@@ -57,12 +65,14 @@ pub(crate) fn wake(recovered: Result<Ring, RingFault>) -> State
     }
 }
 
-// What a denied reservation leaves: numbers that run short change nothing, anything else brings the server down.
-pub(crate) fn stop(up: Up, fault: RingFault) -> State
-    ensures { result ≡ stopped up fault }
+// What the ring's answer leaves: the block in hand where it is reserved; numbers that run short change nothing, and anything
+// else brings the server down.
+pub(crate) fn settle(up: Up, ring: Ring, reserved: Result<Reserved, RingFault>) -> State
+    ensures { result ≡ settled up ring reserved }
 {
-    match fault {
-        RingFault::Exhausted => State::Up(up),
-        _ => State::Down(fault),
+    match reserved {
+        Ok(_) => State::Up(up.with_ring(ring)),
+        Err(RingFault::Exhausted) => State::Up(up),
+        Err(fault) => State::Down(fault),
     }
 }

@@ -1,5 +1,5 @@
 -- The disks that a request file may choose, by what a disk means.
-use Rattle.std.specs.Prelude.{ℕ, ◌-◌, List, [], ◌∷◌, replicate, refl, slice_set}
+use Rattle.std.specs.Prelude.{ℕ, ◌-◌, ◌*◌, Bool, cond, ◌&&◌, List, [], ◌∷◌, Some, None, Option, ◌==◌, nat_le, replicate, refl, slice_set}
 use Rattle.disk.specs.Devices.{faithful, torn_disk, torn}
 use Rattle.disk.specs.Meaning.{Meaning, Shaped, count}
 use Rattle.disk.specs.Memory.{IsSize, sectors}
@@ -29,6 +29,14 @@ sized (Torn d) = all_sized d.sectors.memory.now d.sectors.sized
 abbrev pub make_of : Device → Make
 make_of (Faithful d) = AFaithful
 make_of (Torn d) = ATorn
+
+-- device 0 is the faithful disk, device 1 the torn one
+abbrev pub make_for : ℕ → Option Make
+make_for number = cond (number == 0) (Some AFaithful) (cond (number == 1) (Some ATorn) None)
+
+-- a disk has 10 to 2,048 sectors, and the memory has at least their bytes
+abbrev pub room : ℕ → ℕ → Bool
+room bytes sectors = nat_le 10 sectors && (nat_le sectors 2048 && nat_le (32 * sectors) bytes)
 
 -- a disk that is new: so many sectors of zeros, all of them kept, and a supply of 1,000,000
 abbrev pub cleared : ℕ → Meaning

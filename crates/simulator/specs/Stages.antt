@@ -1,5 +1,5 @@
 -- Where a run stands, seen without its references; and what the lines that set it up make of it.
-use Rattle.std.specs.Prelude.{ℕ, ◌*◌, Bool, cond, ◌&&◌, List, [], ◌++◌, Some, None, Option, ◌==◌, nat_le}
+use Rattle.std.specs.Prelude.{ℕ, List, [], ◌++◌}
 use Rattle.std.specs.List.{flat_map}
 use Rattle.disk.specs.Meaning.{Meaning}
 use Rattle.kind.specs.declared.time.Lease.{Lease}
@@ -9,7 +9,6 @@ use Rattle.simulator.specs.Devices.{meaning_of, make_of}
 use Rattle.simulator.specs.Kinds.{numbering_of}
 use Rattle.simulator.specs.declared.any_kind.AnyKind.{AnyKind}
 use Rattle.simulator.specs.declared.device.Make.{Make}
-use Rattle.simulator.specs.declared.device.Make.TheVariants.{Faithful, Torn}
 use Rattle.simulator.specs.declared.stage.Left.{Left}
 use Rattle.simulator.specs.declared.stage.Left.TheVariants as left
 use Rattle.simulator.specs.declared.stage.Stage.{Stage}
@@ -70,11 +69,3 @@ leased lease (awaits_kind make m spare) = awaits_box make lease m spare
 leased lease (awaits_box make old m spare) = awaits_box make old m spare
 leased lease (runs kind state m spare) = runs kind state m spare
 leased lease (has_ended memory) = has_ended memory
-
--- device 0 is the faithful disk, device 1 the torn one
-abbrev pub make_for : ℕ → Option Make
-make_for number = cond (number == 0) (Some Faithful) (cond (number == 1) (Some Torn) None)
-
--- a disk has 10 to 2,048 sectors, and the memory has at least their bytes
-abbrev pub room : ℕ → ℕ → Bool
-room bytes sectors = nat_le 10 sectors && (nat_le sectors 2048 && nat_le (32 * sectors) bytes)

@@ -13,10 +13,10 @@ use Rattle.record.specs.declared.numbers.Sequence.{Sequence}
 use Rattle.server.specs.Rules.{Gave, WasCut}
 use Rattle.server.specs.declared.fault.ServerFault.{ServerFault}
 use Rattle.server.specs.declared.state.State.{State}
-use Rattle.simulator.specs.Devices.{cleared}
+use Rattle.simulator.specs.Devices.{cleared, make_for, room}
 use Rattle.simulator.specs.Kinds.{numbering_of}
 use Rattle.simulator.specs.Request.{command_in, fields_in}
-use Rattle.simulator.specs.Stages.{View, awaits_disk, awaits_kind, awaits_box, runs, has_ended, started, leased, make_for, room}
+use Rattle.simulator.specs.Stages.{View, awaits_disk, awaits_kind, awaits_box, runs, has_ended, started, leased}
 use Rattle.simulator.specs.declared.answer.Answer.{Answer}
 use Rattle.simulator.specs.declared.answer.Answer.TheVariants.{Set, Given, Woken}
 use Rattle.simulator.specs.declared.answer.Denial.{Denial}

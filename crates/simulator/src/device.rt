@@ -4,8 +4,7 @@ ghost use Rattle.disk.specs.Meaning.{answer_of, Wrote, Flushed, Cut};
 ghost use Rattle.disk.specs.Devices.{memory_disk};
 ghost use Rattle.disk.specs.Memory.{right_size};
 ghost use Rattle.disk.specs.declared.fault.Operation.TheVariants.{Write, Flush};
-ghost use Rattle.simulator.specs.Stages.{room};
-ghost use Rattle.simulator.specs.Devices.{meaning_of, shaped, sized, make_of, cleared, written, settled, cut_by};
+ghost use Rattle.simulator.specs.Devices.{meaning_of, shaped, sized, make_of, room, cleared, written, settled, cut_by};
 
 use disk::{Disk, DiskFault, FaithfulDisk, HoldBack, MemoryDisk, TornDisk};
 use record::SECTOR_BYTES;

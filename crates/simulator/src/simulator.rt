@@ -93,12 +93,9 @@ impl<'a> Simulator<'a> {
         ensures count { self.new.taken ≡ self.old.taken }
         ensures steps { Steps (view self.old.stage) line.now result (view self.new.stage) }
     {
-        if matches!(self.stage, Stage::Ended(_)) {
-            return Err(Denial::Ended);
-        }
-        let command = command_in(line)?;
-        match (&mut self.stage, command) {
-            (Stage::Device(memory), Command::Disk) => {
+        match (&mut self.stage, command_in(line)) {
+            (Stage::Ended(_), _) => Err(Denial::Ended),
+            (Stage::Device(memory), Ok(command @ Command::Disk)) => {
                 let fields = fields_in(line, command)?;
                 if !has_room(memory.len(), fields.b) {
                     return Err(Denial::Size);
@@ -109,30 +106,30 @@ impl<'a> Simulator<'a> {
                 self.stage = Stage::Kind { disk, spare };
                 Ok(Answer::Set)
             }
-            (Stage::Kind { .. }, Command::Serial) => {
+            (Stage::Kind { .. }, Ok(command @ Command::Serial)) => {
                 let fields = fields_in(line, command)?;
                 let kind = SerialKind::new(fields.a)?;
                 self.stage.run(AnyKind::Serial(kind));
                 Ok(Answer::Set)
             }
-            (Stage::Kind { .. }, Command::Time) => {
+            (Stage::Kind { .. }, Ok(command @ Command::Time)) => {
                 let fields = fields_in(line, command)?;
                 let lease = Lease::new(fields.a)?;
                 self.stage.set_lease(lease);
                 Ok(Answer::Set)
             }
-            (Stage::Box { lease, .. }, Command::Box) => {
+            (Stage::Box { lease, .. }, Ok(command @ Command::Box)) => {
                 let fields = fields_in(line, command)?;
                 let correction = Correction::new(fields.b)?;
                 let kind = TimeKind::new(*lease, fields.a, correction)?;
                 self.stage.run(AnyKind::Time(kind));
                 Ok(Answer::Set)
             }
-            (Stage::Running { server, .. }, Command::Give) => {
+            (Stage::Running { server, .. }, Ok(command @ Command::Give)) => {
                 let fields = fields_in(line, command)?;
                 ask(server, fields)
             }
-            (Stage::Running { server, .. }, Command::Cut) => {
+            (Stage::Running { server, .. }, Ok(command @ Command::Cut)) => {
                 let fields = fields_in(line, command)?;
                 server
                     .cut(fields.a, fields.b)

@@ -1,7 +1,8 @@
 // Where a run stands, by the lines that were taken.
 ghost use Rattle.std.specs.Prelude.{◌≡◌, ok_or};
 ghost use Rattle.simulator.specs.Takes.{finished};
-ghost use Rattle.simulator.specs.Stages.{view, started, leased, closed, room, make_for};
+ghost use Rattle.simulator.specs.Devices.{make_for, room};
+ghost use Rattle.simulator.specs.Stages.{view, started, leased, closed};
 ghost use Rattle.simulator.specs.declared.answer.Denial.TheVariants.{NoDevice};
 ghost use Rattle.simulator.specs.declared.stage.Left.TheVariants.{Nothing};
 ghost use Rattle.simulator.specs.declared.stage.Stage.TheVariants.{Ended};

@@ -60,7 +60,7 @@ reserving_by ring answer passes ended answered =
       reserves =
           record {
             refused = λ fault e. absurd (not_some fault (passes ∙ e));
-            reserves = λ agrees e. ended;
+            reserves = λ e. ended;
           };
       answered = answered;
     }

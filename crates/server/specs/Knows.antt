@@ -1,0 +1,26 @@
+-- What a server knows of its disk: while it is up, its ring is what the disk reads.
+use Rattle.std.specs.Prelude.{◌≡◌}
+use Rattle.std.proofs.Props.{props}
+use Rattle.std.specs.Coded.{Unit-prop}
+use Rattle.disk.specs.Meaning.{Meaning}
+use Rattle.kind.specs.Meaning.{Numbering}
+use Rattle.ring.specs.Ring.{Agrees}
+use Rattle.ring.specs.declared.ring.Ring.{Ring}
+use Rattle.server.specs.Rules.{format}
+use Rattle.server.specs.declared.state.State.{State}
+use Rattle.server.specs.declared.state.State.TheVariants.{Up as Awake, Down}
+
+-- a ring of the kind's records knows what the disk reads
+pub record Knows (k : Numbering) (ring : Ring) (m : Meaning) : Type 0 where
+  pub agrees : Agrees ring m
+  pub form : ring.format ≡ format k m
+
+-- a server that is up knows its disk; one that is down knows nothing of it
+abbrev pub KnowsDisk : Numbering → State → Meaning → Type 0
+KnowsDisk k (Awake u) m = Knows k u.ring m
+KnowsDisk k (Down fault) m = Unit {0}
+
+-- either is known in one way only, so that it may be a ghost field
+pub KnowsDisk-prop : (k : Numbering) (state : State) (m : Meaning) → IsProp (KnowsDisk k state m)
+KnowsDisk-prop k (Awake u) m = Prim.hlevel props
+KnowsDisk-prop k (Down fault) m = Unit-prop
