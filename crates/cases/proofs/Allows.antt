@@ -51,8 +51,8 @@ use Rattle.simulator.specs.declared.request.Fields.{Fields}
 use Rattle.simulator.specs.declared.request.Item.{Item}
 use Rattle.cases.specs.Allowed.{Well, WellState, RunsAreAllowed}
 use Rattle.cases.specs.Exact.{after_ops}
-use Rattle.cases.specs.Run.{LeftBy, Run, after_reserving, reserved_by, decided, given_by, woken_on, done_by, line_done}
-use Rattle.cases.proofs.Goes.{Level, went_by, level_by, was_left}
+use Rattle.cases.specs.Run.{LeftBy, Run, after_reserving, reserved_by, decided, given_by, done_by, line_done}
+use Rattle.cases.proofs.Goes.{Level, went_by, level_by}
 
 -- two answers that differ
 no_ok : {A B : Type 0} (x : A) (y : B) → ◌≡◌ {A = Result A B} (Err y) (Ok x) → ⊥
@@ -104,7 +104,7 @@ stopped_well u m (Disk n) agrees kept = tt
 stopped_well u m (Interrupted n) agrees kept = tt
 
 -- what a call leaves is as it is allowed, and well
-abbrev IsAllowed : Numbering → Up → Meaning → ℕ → Decision → LeftBy (Result Identifier ServerFault) → Type 0
+abbrev IsAllowed : Numbering → Up → Meaning → ℕ → Decision → LeftBy → Type 0
 IsAllowed k u m s d l = GaveUp k u m s d l.answer l.state l.disk × (Level l.disk × WellState l.state l.disk)
 
 module _ (make : Make) (k : Numbering) (u : Up) (m : Meaning) (s : ℕ) (agrees : Agrees u.ring m) (kept : m.kept ≡ m.reading) where
@@ -254,15 +254,8 @@ done_allowed make (gives k state m spare f) well =
     let l = given_by make (numbering_of k) state m (min f.a 255) f.b in
     (record { answer = l.answer; state' = l.state; meaning' = l.disk; gave = g.0; answers = refl; goes = refl }, g.1)
 done_allowed make (cuts k state m spare f) well =
-    let l = woken_on (numbering_of k) (cut_by make f.a f.b m) in (
-      record {
-        answer = l.answer;
-        state' = l.state;
-        meaning' = l.disk;
-        was_cut = record { left = was_left make f.a f.b m well.0; state = refl; told = refl };
-        answers = refl;
-        goes = refl;
-      },
+    (
+      record { make = make; wakes = record { answers = refl; goes = refl } },
       (refl, wakes_well (numbering_of k) (cut_by make f.a f.b m) (tags k) (tops k) refl),
     )
 

@@ -47,38 +47,3 @@ pub level_by : (make : Make) (ops : List Op) (m : Meaning) → Level m → Level
 level_by make [] m level = level
 level_by make (put i bytes ∷ ops) m level = level_by make ops (written make m i bytes) (level_written make m i bytes)
 level_by make (settle ∷ ops) m level = level_by make ops (settled m) refl
-
--- what a tear leaves of each sector
-at-torn : (tear : ℕ) (kept reading : List (List ℕ)) (k : ℕ) → length kept ≡ length reading → at (torn_apart tear kept reading) k ≡ torn tear (at kept k) (at reading k)
-at-torn tear [] [] k level = sym (torn_equal tear [])
-at-torn tear [] (x ∷ reading) k level = absurd (omega arith)
-at-torn tear (x ∷ kept) [] k level = absurd (omega arith)
-at-torn tear (x ∷ kept) (y ∷ reading) zero level = refl
-at-torn tear (x ∷ kept) (y ∷ reading) (suc k) level = at-torn tear kept reading k (omega arith)
-
-length-torn : (tear : ℕ) (kept reading : List (List ℕ)) → length kept ≡ length reading → length (torn_apart tear kept reading) ≡ length reading
-length-torn tear [] reading level = refl
-length-torn tear (x ∷ kept) [] level = absurd (omega arith)
-length-torn tear (x ∷ kept) (y ∷ reading) level = ap suc (length-torn tear kept reading (omega arith))
-
--- a cut
-pub was_left : (make : Make) (tear supply : ℕ) (m : Meaning) → Level m → Cut m supply (cut_by make tear supply m)
-was_left Faithful tear supply m level =
-    record {
-      reads_count = refl;
-      reads = λ k. inr (inl refl);
-      settled = λ k e. refl;
-      keeps = refl;
-      supplied = refl;
-      leaves = refl;
-    }
-was_left Torn tear supply m level =
-    let one : (k : ℕ) → at (torn_apart tear m.kept m.reading) k ≡ torn tear (at m.kept k) (at m.reading k) = λ k. at-torn tear m.kept m.reading k level in
-    record {
-      reads_count = length-torn tear m.kept m.reading level;
-      reads = λ k. rw (one k) (mended_one_of (mixture (tear % 33) (at m.kept k) (at m.reading k)) (at m.kept k) (at m.reading k));
-      settled = λ k e. one k ∙ ap (λ (x : List ℕ). torn tear x (at m.reading k)) e ∙ torn_equal tear (at m.reading k);
-      keeps = refl;
-      supplied = refl;
-      leaves = refl;
-    }

@@ -23,7 +23,7 @@ use Rattle.simulator.specs.Lines.{line_end, up_to}
 use Rattle.simulator.specs.Print.{printed}
 use Rattle.simulator.specs.Request.{command_in}
 use Rattle.simulator.specs.Stages.{View, awaits_disk, awaits_kind, awaits_box, runs, has_ended}
-use Rattle.simulator.specs.Steps.{Done, denied, Asked, settles, gives, cuts, asked, given as told_of_request, woken_up}
+use Rattle.simulator.specs.Steps.{Done, denied, Asked, settles, gives, cuts, asked, given as told_of_request, woken_on}
 use Rattle.simulator.specs.Takes.{counted, shown_number, finished}
 use Rattle.simulator.specs.declared.answer.Answer.{Answer}
 use Rattle.simulator.specs.declared.answer.Denial.{Denial}
@@ -33,14 +33,14 @@ use Rattle.simulator.specs.declared.device.Make.{Make}
 use Rattle.simulator.specs.declared.device.Make.TheVariants.{Faithful}
 use Rattle.cases.specs.Exact.{after_ops}
 
--- what a call leaves: its answer, the server's state, and the disk
-pub record LeftBy (A : Type 0) : Type 0 where
-  pub answer : A
+-- what a request leaves: its answer, the server's state, and the disk
+pub record LeftBy : Type 0 where
+  pub answer : Result Identifier ServerFault
   pub state : State
   pub disk : Meaning
 
 -- a reservation that the ring does not refuse: the disk goes by the operations that succeed; the rank is given only if all do
-abbrev pub after_reserving : Numbering → Up → ℕ → Rank → Meaning → Result Reserved RingFault → LeftBy (Result Identifier ServerFault)
+abbrev pub after_reserving : Numbering → Up → ℕ → Rank → Meaning → Result Reserved RingFault → LeftBy
 after_reserving k u s rank m (Ok reserved) =
     record {
       answer = Ok (k.identifier s rank);
@@ -49,7 +49,7 @@ after_reserving k u s rank m (Ok reserved) =
     }
 after_reserving k u s rank m (Err fault) = record { answer = Err (OfRing fault); state = stopped u fault; disk = m }
 
-abbrev pub reserved_by : Make → Numbering → Up → Meaning → ℕ → Rank → Option RingFault → LeftBy (Result Identifier ServerFault)
+abbrev pub reserved_by : Make → Numbering → Up → Meaning → ℕ → Rank → Option RingFault → LeftBy
 reserved_by make k u m s rank (Some fault) = record { answer = Err (OfRing fault); state = stopped u fault; disk = m }
 reserved_by make k u m s rank None =
     after_reserving k u s rank
@@ -57,28 +57,21 @@ reserved_by make k u m s rank None =
     (outcome (record { series = s; end = block_end k rank }) (plan u.ring.format 7 s (block_end k rank).0 m.reading) m.supply)
 
 -- a request on a server that is up, by what it asks for
-abbrev pub decided : Make → Numbering → Up → Meaning → ℕ → Decision → LeftBy (Result Identifier ServerFault)
+abbrev pub decided : Make → Numbering → Up → Meaning → ℕ → Decision → LeftBy
 decided make k u m s (refuse fault) = record { answer = Err fault; state = Awake u; disk = m }
 decided make k u m s (hand rank) = record { answer = Ok (k.identifier s rank); state = given u s rank; disk = m }
 decided make k u m s (reserve rank) =
     reserved_by make k u m s rank (refusal u.ring.format u.ring.known.top.0 s (block_end k rank))
 
 -- a request
-abbrev pub given_by : Make → Numbering → State → Meaning → ℕ → ℕ → LeftBy (Result Identifier ServerFault)
+abbrev pub given_by : Make → Numbering → State → Meaning → ℕ → ℕ → LeftBy
 given_by make k (Down fault) m s reading = record { answer = Err (WasDown fault); state = Down fault; disk = m }
 given_by make k (Awake u) m s reading = decided make k u m s (decision k u s (record { 0 = reading }))
 
--- the server after a cut, over the disk that the cut left
-abbrev pub woken_on : Numbering → Meaning → LeftBy (Result Sequence ServerFault)
-woken_on k m = record { answer = top_told (recovered (format k m) m.reading); state = woken k m; disk = m }
-
--- a request's and a cut's answer, with the stage after it
-abbrev pub request_done : AnyKind → List ℕ → ℕ → LeftBy (Result Identifier ServerFault) → Done
+-- a request's answer, with the stage after it
+abbrev pub request_done : AnyKind → List ℕ → ℕ → LeftBy → Done
 request_done kind spare series l =
     record { answer = told_of_request series l.answer; after = runs kind l.state l.disk spare }
-
-abbrev pub cut_done : AnyKind → List ℕ → LeftBy (Result Sequence ServerFault) → Done
-cut_done kind spare l = record { answer = woken_up l.answer; after = runs kind l.state l.disk spare }
 
 -- what a line asks for, done on a disk
 abbrev pub done_by : Make → Asked → Done
@@ -86,7 +79,7 @@ done_by make (settles done) = done
 done_by make (gives kind state m spare f) =
     request_done kind spare f.a (given_by make (numbering_of kind) state m (min f.a 255) f.b)
 done_by make (cuts kind state m spare f) =
-    cut_done kind spare (woken_on (numbering_of kind) (cut_by make f.a f.b m))
+    woken_on kind spare (cut_by make f.a f.b m)
 
 -- a run: which disk it is on, where it stands, and how many lines were taken
 pub record Run : Type 0 where

@@ -1,7 +1,10 @@
 -- Meanings of a disk, by their parts.
-use Rattle.std.proofs.Common.{◌≡◌, ℕ, List, ap, ◌∙◌}
+use Rattle.std.proofs.Common.{◌≡◌, ℕ, List, sym, ap, ◌∙◌, subst}
+use Rattle.disk.specs.Devices.{memory_disk, after_cut}
 use Rattle.disk.specs.Holding.{Holding, LawfulHolding}
 use Rattle.disk.specs.Meaning.{Meaning, Cut}
+use Rattle.disk.specs.Memory.{sectors, spare}
+use Rattle.disk.specs.declared.memory.MemoryDisk.{MemoryDisk}
 
 -- two meanings with the same parts are the same
 pub same_parts :
@@ -15,10 +18,21 @@ same_parts reading reading' kept kept' supply supply' beyond beyond' r k s b = r
 pub all_kept : {H : Type 0} (w : Holding H) → LawfulHolding w → (h : H) (xs : List (List ℕ)) → h ≡ w.nothing → w.before h xs ≡ xs
 all_kept w laws h xs none = ap (λ held. w.before held xs) none ∙ laws.nothing_before xs
 
--- a cut whose parts are told otherwise
-pub cut_told :
-    (m : Meaning) (supply : ℕ) (reading kept left : List (List ℕ)) (after beyond : List ℕ) →
-    Cut m supply (record { reading = left; kept = left; supply = supply; beyond = beyond }) →
-    reading ≡ left → kept ≡ reading → after ≡ beyond →
-    Cut m supply (record { reading = reading; kept = kept; supply = supply; beyond = after })
-cut_told m supply reading kept left after beyond law r k b = rw (k ∙ r, r, b) law
+-- what a disk is left as by a cut
+module _ {H : Type 0} (w : Holding H) (laws : LawfulHolding w) (d d' : MemoryDisk H) (tear supply : ℕ) where
+  abbrev memory : List ℕ
+  memory = d.sectors.memory.now
+
+  abbrev memory' : List ℕ
+  memory' = d'.sectors.memory.now
+
+  pub is_after_cut :
+      sectors memory' ≡ w.left_sectors tear d.held (sectors memory) → spare memory' ≡ spare memory → d'.held ≡ w.nothing → d'.supply ≡ supply →
+      memory_disk w.before d' ≡ after_cut w.left_sectors d tear supply
+  is_after_cut left rest none supplied =
+      same_parts _ _ _ _ _ _ _ _ left (all_kept w laws d'.held (sectors memory') none ∙ left) supplied rest
+
+  pub is_cut : memory_disk w.before d' ≡ after_cut w.left_sectors d tear supply → Cut (memory_disk w.before d) supply (memory_disk w.before d')
+  is_cut e =
+      subst (λ (m : Meaning). Cut (memory_disk w.before d) supply m) (sym e)
+      (laws.cuts d.held tear d.supply supply (sectors memory) (spare memory))

@@ -19,6 +19,16 @@ memory_disk before d =
       beyond = spare d.sectors.memory.now;
     }
 
+-- a cut of it with a tear and a new supply leaves what is left of the writes that are held back
+abbrev pub after_cut : {H : Type 0} → (ℕ → H → List (List ℕ) → List (List ℕ)) → MemoryDisk H → ℕ → ℕ → Meaning
+after_cut left d tear supply =
+    record {
+      reading = left tear d.held (sectors d.sectors.memory.now);
+      kept = left tear d.held (sectors d.sectors.memory.now);
+      supply = supply;
+      beyond = spare d.sectors.memory.now;
+    }
+
 -- no write is ever held back
 abbrev pub write_through : Holding WriteThrough
 write_through =

@@ -1,5 +1,5 @@
 // What every disk promises.
-ghost use Rattle.std.specs.Prelude.{◌≡◌, MatchResult};
+ghost use Rattle.std.specs.Prelude.{◌≡◌, ℕ, MatchResult};
 ghost use Rattle.disk.specs.Memory.{IsSize};
 ghost use Rattle.disk.specs.Meaning.{Meaning, Shaped, count, found, answer_of, Wrote, Flushed, Cut};
 ghost use Rattle.disk.specs.declared.fault.Operation.TheVariants.{Write, Flush};
@@ -10,6 +10,9 @@ use record::SECTOR_BYTES;
 // A disk, by what is read from it, what it keeps, and how many writes and flushes still succeed.
 pub trait Disk {
     ghost meaning: { Self → Meaning };
+
+    // What a cut with a tear and a new supply leaves of it.
+    ghost after_cut: { Self → ℕ → ℕ → Meaning };
 
     // The number of sectors.
     fn sectors(&self) -> usize
@@ -31,7 +34,8 @@ pub trait Disk {
 
     // The current fails and comes back, with so many writes and flushes to succeed. The tear says how a write is torn.
     fn cut(&mut self, tear: u64, supply: u64)
-        ensures meaning { Cut (meaning self.old) supply (meaning self.new) };
+        ensures meaning { Cut (meaning self.old) supply (meaning self.new) }
+        ensures exact { meaning self.new ≡ after_cut self.old tear supply };
 
     // Sectors have 32 bytes, and as many are kept as are read.
     ghost shaped: { (disk : Self) → Shaped (meaning disk) };

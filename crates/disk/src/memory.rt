@@ -1,6 +1,6 @@
 // A disk over memory handed in.
 ghost use Rattle.std.specs.Prelude.{◌≡◌, length, is_ok, IfOk, if◌then◌else◌, MatchResult};
-ghost use Rattle.disk.specs.Devices.{memory_disk};
+ghost use Rattle.disk.specs.Devices.{memory_disk, after_cut};
 ghost use Rattle.disk.specs.Meaning.{at, answer_of, Wrote, Flushed, Cut};
 ghost use Rattle.disk.specs.Shape.{all_shaped, all_sized};
 ghost use Rattle.disk.specs.Memory.{right_size, sectors as cut_up, stored};
@@ -44,6 +44,8 @@ impl<'a, H: HoldBack> MemoryDisk<'a, H> {
 impl<H: HoldBack> Disk for MemoryDisk<'_, H> {
     ghost meaning = { memory_disk H.holding.before };
 
+    ghost after_cut = { after_cut H.holding.left_sectors };
+
     ghost shaped = { λ disk. record { bytes = all_shaped disk.sectors.memory.now; keeps = H.lawful.before_count disk.held (cut_up disk.sectors.memory.now) } };
 
     ghost sized = { λ disk. all_sized disk.sectors.memory.now disk.sectors.sized };
@@ -82,6 +84,7 @@ impl<H: HoldBack> Disk for MemoryDisk<'_, H> {
 
     fn cut(&mut self, tear: u64, supply: u64)
         ensures meaning { Cut (memory_disk H.holding.before self.old) supply (memory_disk H.holding.before self.new) }
+        ensures exact { memory_disk H.holding.before self.new ≡ after_cut H.holding.left_sectors self.old tear supply }
         ensures memory { self.new.sectors.memory.now ≡ H.holding.left tear self.old.held self.old.sectors.memory.now }
         ensures sectors { cut_up self.new.sectors.memory.now ≡ H.holding.left_sectors tear self.old.held (cut_up self.old.sectors.memory.now) }
         ensures holds { self.new.held ≡ H.holding.nothing }

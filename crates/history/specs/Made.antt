@@ -1,5 +1,5 @@
 -- The calls and answers of a history, and what making a list of calls promises.
-use Rattle.std.specs.Prelude.{◌≡◌, List, [], ◌∷◌, ◌++◌, map, Some}
+use Rattle.std.specs.Prelude.{◌≡◌, ℕ, List, [], ◌∷◌, ◌++◌, map, Some}
 use Rattle.disk.specs.Meaning.{Meaning}
 use Rattle.kind.specs.Meaning.{Numbering}
 use Rattle.ring.specs.Left.{Unwritten, WithoutRecords}
@@ -20,6 +20,11 @@ call_of (cut tear supply answer after) = Cut tear supply
 abbrev pub answer_of : Event → Answer
 answer_of (request s reading answer after) = Gave answer
 answer_of (cut tear supply answer after) = WasCut answer
+
+-- a cut leaves of the disk what its tear and its supply leave of it
+abbrev pub Leaves : (ℕ → ℕ → Meaning) → Call → Meaning → Type 0
+Leaves after_cut (Give s reading) m = Unit {0}
+Leaves after_cut (Cut tear supply) m = m ≡ after_cut tear supply
 
 -- one call more
 pub record Made (k : Numbering) (start : Meaning) (past : List Event) (call : Call) (answer : Answer) (state : State) (m : Meaning) : Type 0 where

@@ -3,7 +3,7 @@ ghost use Rattle.std.specs.Prelude.{◌≡◌, List};
 ghost use Rattle.disk.specs.Meaning.{Meaning};
 ghost use Rattle.server.specs.History.{Event};
 ghost use Rattle.server.specs.Promise.{Reached, EveryHistoryObeys};
-ghost use Rattle.history.specs.Made.{Made, Served, Ran};
+ghost use Rattle.history.specs.Made.{Leaves, Made, Served, Ran};
 
 use disk::Disk;
 use kind::Kind;
@@ -29,6 +29,7 @@ pub enum Answer {
 pub fn make<D: Disk, K: Kind>(server: &mut Server<D, K>, call: Call) -> Answer
     ensures kind { server.new.kind ≡ server.old.kind }
     ensures extends { (start : Meaning) (past : List Event) → Reached (K.numbering server.old.kind) start past server.old.state (D.meaning server.old.disk) → Made (K.numbering server.old.kind) start past call result server.new.state (D.meaning server.new.disk) }
+    ensures cut { Leaves (D.after_cut server.old.disk) call (D.meaning server.new.disk) }
     ensures promise { EveryHistoryObeys }
 {
     match call {

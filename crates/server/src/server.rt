@@ -84,6 +84,7 @@ impl<D: Disk, K: Kind> Server<D, K> {
     // A power cut, and the fresh start after it: answers the top record.
     pub fn cut(&mut self, tear: u64, supply: u64) -> Result<Sequence, ServerFault>
         ensures kind { self.new.kind ≡ self.old.kind }
+        ensures exact { D.meaning self.new.disk ≡ D.after_cut self.old.disk tear supply }
         ensures rules { WasCut (K.numbering self.old.kind) (D.meaning self.old.disk) supply result self.new.state (D.meaning self.new.disk) }
     {
         self.disk.cut(tear, supply);

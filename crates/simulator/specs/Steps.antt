@@ -10,10 +10,11 @@ use Rattle.kind.specs.declared.time.Lease.{Lease}
 use Rattle.kind.specs.declared.time.TimeKind.{TimeKind}
 use Rattle.record.specs.declared.numbers.Identifier.{Identifier}
 use Rattle.record.specs.declared.numbers.Sequence.{Sequence}
-use Rattle.server.specs.Rules.{Gave, WasCut}
+use Rattle.ring.specs.Ring.{recovered}
+use Rattle.server.specs.Rules.{format, woken, top_told, Gave}
 use Rattle.server.specs.declared.fault.ServerFault.{ServerFault}
 use Rattle.server.specs.declared.state.State.{State}
-use Rattle.simulator.specs.Devices.{cleared, make_for, room}
+use Rattle.simulator.specs.Devices.{cleared, make_for, room, cut_by}
 use Rattle.simulator.specs.Kinds.{numbering_of}
 use Rattle.simulator.specs.Request.{command_in, fields_in}
 use Rattle.simulator.specs.Stages.{View, awaits_disk, awaits_kind, awaits_box, runs, has_ended, started, leased}
@@ -140,19 +141,23 @@ pub record Gives (kind : AnyKind) (state : State) (m : Meaning) (spare : List �
   pub answers : r ≡ given f.a answer
   pub goes : after ≡ runs kind state' meaning' spare
 
--- a cut with a tear and a new supply
-pub record Cuts (kind : AnyKind) (m : Meaning) (spare : List ℕ) (f : Fields) (r : Result Answer Denial) (after : View) : Type 0 where
-  pub answer : Result Sequence ServerFault
-  pub state' : State
-  pub meaning' : Meaning
-  pub was_cut : WasCut (numbering_of kind) m f.b answer state' meaning'
-  pub answers : r ≡ woken_up answer
-  pub goes : after ≡ runs kind state' meaning' spare
-
 -- an answer and the stage after it, as they are settled
 pub record Comes (done : Done) (r : Result Answer Denial) (after : View) : Type 0 where
   pub answers : r ≡ done.answer
   pub goes : after ≡ done.after
+
+-- a server wakes on a disk
+abbrev pub woken_on : AnyKind → List ℕ → Meaning → Done
+woken_on kind spare m =
+    record {
+      answer = woken_up (top_told (recovered (format (numbering_of kind) m) m.reading));
+      after = runs kind (woken (numbering_of kind) m) m spare;
+    }
+
+-- a cut with a tear and a new supply: the server wakes on what one of the two disks then is
+pub record Cuts (kind : AnyKind) (m : Meaning) (spare : List ℕ) (f : Fields) (r : Result Answer Denial) (after : View) : Type 0 where
+  pub make : Make
+  pub wakes : Comes (woken_on kind spare (cut_by make f.a f.b m)) r after
 
 -- what is asked for is done
 abbrev pub Does : Asked → Result Answer Denial → View → Type 0

@@ -31,6 +31,8 @@ const FIRST_SUPPLY: u64 = 1_000_000;
 impl Disk for Device<'_> {
     ghost meaning = { meaning_of };
 
+    ghost after_cut = { λ device tear supply. cut_by (make_of device) tear supply (meaning_of device) };
+
     ghost shaped = { shaped };
 
     ghost sized = { sized };

@@ -1,15 +1,16 @@
 -- The sectors are left as the law of what is held back says, and nothing is held back any more.
-use Rattle.disk.specs.Memory.{sectors, spare}
-use Rattle.disk.proofs.Meanings.{all_kept, cut_told}
+use Rattle.std.proofs.Common.{refl}
+use Rattle.disk.proofs.Meanings.{is_after_cut, is_cut}
 use Rattle.disk.proofs.memory.MemoryDiskDisk.cut.Goals as goal
+
+pub returns-clause-exact : goal.returns-clause-exact
+returns-clause-exact g c =
+    is_after_cut g.H.HoldBack.holding g.met.H.HoldBack.lawful c.args.self.now
+    (record { sectors = c.tear.new.sectors; supply = c.args.supply; held = c.nothing.result }) c.args.tear c.args.supply
+    c.tear.ensures.sectors c.tear.ensures.spare c.nothing.ensures refl
 
 pub returns-clause-meaning : goal.returns-clause-meaning
 returns-clause-meaning g c =
-    let laws = g.met.H.HoldBack.lawful in
-    let memory = c.args.self.now.sectors.memory.now in
-    let after = c.tear.new.sectors.memory.now in
-    cut_told _ c.args.supply (sectors after) _ _ (spare after) _
-    (laws.cuts c.args.self.now.held c.args.tear c.args.self.now.supply c.args.supply (sectors memory) (spare memory))
-    c.tear.ensures.sectors
-    (all_kept g.H.HoldBack.holding laws c.nothing.result (sectors after) c.nothing.ensures)
-    c.tear.ensures.spare
+    is_cut g.H.HoldBack.holding g.met.H.HoldBack.lawful c.args.self.now
+    (record { sectors = c.tear.new.sectors; supply = c.args.supply; held = c.nothing.result }) c.args.tear c.args.supply
+    (returns-clause-exact g c)
