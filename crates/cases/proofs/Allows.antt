@@ -2,7 +2,6 @@
 use Rattle.std.proofs.Common.{◌≡◌, ℕ, ◌*◌, ◌^◌, ◌<◌, ◌≤◌, min, Bool, true, false, cond, ◌&&◌, leb, List, length, Some, None, Ok, Err, MatchBool, Option, Result, sym, refl, ap, ◌∙◌, subst, inl, inr, ⊎_elim, arith, leb-true}
 use Rattle.std.proofs.lemmas.Bool.{cases_lt}
 use Rattle.std.proofs.lemmas.Option.{none-some}
-use Rattle.record.specs.declared.numbers.Identifier.{Identifier}
 use Rattle.record.specs.declared.numbers.Rank.{Rank}
 use Rattle.record.specs.declared.sector.Format.{Format}
 use Rattle.disk.specs.Meaning.{Meaning, Cut}
@@ -28,7 +27,6 @@ use Rattle.ring.proofs.Reserves.{may_from}
 use Rattle.ring.proofs.Starts.{agrees_recovers, recovers_agrees}
 use Rattle.server.proofs.Requests.{stopped_tells}
 use Rattle.server.specs.Rules.{Decision, refuse, hand, reserve, decision, block_end, format, awake, stopped, woken, Does as GaveUp, Gave}
-use Rattle.server.specs.declared.fault.ServerFault.{ServerFault}
 use Rattle.server.specs.declared.state.State.{State}
 use Rattle.server.specs.declared.state.State.TheVariants.{Up as Awake, Down}
 use Rattle.server.specs.declared.state.Up.{Up}
@@ -253,11 +251,10 @@ done_allowed make (gives k state m spare f) well =
     let g = given_allowed make (numbering_of k) state m (min f.a 255) f.b well.0 well.1 in
     let l = given_by make (numbering_of k) state m (min f.a 255) f.b in
     (record { answer = l.answer; state' = l.state; meaning' = l.disk; gave = g.0; answers = refl; goes = refl }, g.1)
-done_allowed make (cuts k state m spare f) well =
-    (
-      record { make = make; wakes = record { answers = refl; goes = refl } },
-      (refl, wakes_well (numbering_of k) (cut_by make f.a f.b m) (tags k) (tops k) refl),
-    )
+done_allowed make (cuts k state m spare f) well = (
+  record { make = make; wakes = record { answers = refl; goes = refl } },
+  (refl, wakes_well (numbering_of k) (cut_by make f.a f.b m) (tags k) (tops k) refl),
+)
 
 -- the lines that set a run up
 either_well : (b : Bool) (x y : Done) → Well x.after → Well y.after → Well (cond b x y).after

@@ -1,10 +1,8 @@
 -- The two disks, exactly, within a disk's meaning.
-use Rattle.std.proofs.Common.{◌≡◌, ℕ, zero, suc, ◌%◌, ◌≤◌, List, [], ◌∷◌, length, sym, refl, ap, ◌∙◌, inl, inr, arith, length-set}
-use Rattle.disk.specs.Devices.{torn, mixture}
-use Rattle.disk.specs.Meaning.{Meaning, Wrote, Flushed, Cut, at}
-use Rattle.disk.specs.Tearing.{mended_one_of, torn_equal}
+use Rattle.std.proofs.Common.{◌≡◌, ℕ, ◌≤◌, List, [], ◌∷◌, length, sym, refl, ◌∙◌, inl, inr, arith, length-set}
+use Rattle.disk.specs.Meaning.{Meaning, Wrote, Flushed}
 use Rattle.ring.specs.Operations.{Op, put, settle, Went}
-use Rattle.simulator.specs.Devices.{written, settled, torn_apart, cut_by}
+use Rattle.simulator.specs.Devices.{written, settled}
 use Rattle.simulator.specs.declared.device.Make.{Make}
 use Rattle.simulator.specs.declared.device.Make.TheVariants.{Faithful, Torn}
 use Rattle.cases.specs.Exact.{after_ops}

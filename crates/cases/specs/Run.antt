@@ -2,15 +2,14 @@
 use Rattle.std.specs.Prelude.{ℕ, zero, suc, min, Bool, true, false, cond, List, [], ◌∷◌, ◌++◌, length, drop, Some, None, Ok, Err, Option, Result, nat_le}
 use Rattle.record.specs.declared.numbers.Identifier.{Identifier}
 use Rattle.record.specs.declared.numbers.Rank.{Rank}
-use Rattle.record.specs.declared.numbers.Sequence.{Sequence}
 use Rattle.disk.specs.Meaning.{Meaning}
 use Rattle.kind.specs.Meaning.{Numbering}
 use Rattle.ring.specs.Operations.{performed, outcome}
-use Rattle.ring.specs.Ring.{plan, known, recovered}
+use Rattle.ring.specs.Ring.{plan, known}
 use Rattle.ring.specs.Search.{refusal}
 use Rattle.ring.specs.declared.fault.RingFault.{RingFault}
 use Rattle.ring.specs.declared.token.Reserved.{Reserved}
-use Rattle.server.specs.Rules.{Decision, refuse, hand, reserve, decision, block_end, given, stopped, woken, top_told, format}
+use Rattle.server.specs.Rules.{Decision, refuse, hand, reserve, decision, block_end, given, stopped}
 use Rattle.server.specs.declared.fault.ServerFault.{ServerFault}
 use Rattle.server.specs.declared.fault.ServerFault.TheVariants.{Down as WasDown, Ring as OfRing}
 use Rattle.server.specs.declared.state.State.{State}
