@@ -22,6 +22,6 @@ stored memory i bytes = take (32 * i) memory ++ (bytes ++ drop (32 * i + 32) mem
 abbrev pub IsSize : ℕ → Type 0
 IsSize count = (10 ≤ count) × (count ≤ 2048)
 
--- the same as a test, and its memory is theirs
+-- the test of that, and that the memory has their bytes and no others
 abbrev pub right_size : ℕ → ℕ → Bool
 right_size bytes count = nat_le 10 count && (nat_le count 2048 && bytes == 32 * count)

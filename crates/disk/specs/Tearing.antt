@@ -11,13 +11,16 @@ use Rattle.disk.specs.Holding.{KeepsOneOf, LawfulHolding}
 use Rattle.disk.specs.Meaning.{at, Cut}
 use Rattle.disk.specs.declared.torn.Held.{Held}
 
+-- a mixture that is not put back: it is not sound, or it is one of the two contents
 test_fails : (s a b : Bool) → (s && (not a && not b)) ≡ false → (s ≡ false) ⊎ ((a ≡ true) ⊎ (b ≡ true))
 test_fails false a b e = inl refl
 test_fails true true b e = inr (inl refl)
 test_fails true false true e = inr (inr refl)
 test_fails true false false e = absurd (true≢false e)
 
+-- what is left of a mixture of two contents
 module _ (mixed old new : List ℕ) where
+  -- where it is not put back
   mended_fails :
       mended mixed old new ≡ mixed → (sound mixed ≡ false) ⊎ ((bytes_eq mixed old ≡ true) ⊎ (bytes_eq mixed new ≡ true)) →
       (mended mixed old new ≡ old) ⊎ ((mended mixed old new ≡ new) ⊎ (sound (mended mixed old new) ≡ false))
@@ -25,6 +28,7 @@ module _ (mixed old new : List ℕ) where
   mended_fails e (inr (inl same)) = inl (e ∙ (bytes_eq-Decides mixed old).0 same)
   mended_fails e (inr (inr same)) = inr (inl (e ∙ (bytes_eq-Decides mixed new).0 same))
 
+  -- in any case: the old content, the new one, or bytes that are not sound
   pub mended_one_of : (mended mixed old new ≡ old) ⊎ ((mended mixed old new ≡ new) ⊎ (sound (mended mixed old new) ≡ false))
   mended_one_of =
       ⊎_elim (λ e. inl (rw e refl))
@@ -38,16 +42,21 @@ torn_equal tear s =
     ⊎_elim (λ e. rw e refl) (λ e. rw e whole)
     (cases_Bool (sound (mixture (tear % 33) s s) && (not (bytes_eq (mixture (tear % 33) s s) s) && not (bytes_eq (mixture (tear % 33) s s) s))))
 
+-- a cut with one write held back
 module _ (tear : ℕ) (xs : List (List ℕ)) (h : Held) where
+  -- its sector is torn
   left_at : h.sector < length xs → at (left_sectors tear (Some h) xs) h.sector ≡ torn tear h.old (at xs h.sector)
   left_at l = get_or-set_same xs h.sector _ [] l
 
+  -- before the write its sector had the old content
   before_at : h.sector < length xs → at (before (Some h) xs) h.sector ≡ h.old
   before_at l = get_or-set_same xs h.sector h.old [] l
 
+  -- no other sector changes
   left_other : (k : ℕ) → k ≢ h.sector → at (left_sectors tear (Some h) xs) k ≡ at xs k
   left_other k ne = get_or-set_other xs h.sector k _ [] ne
 
+  -- where there is no such sector, none changes
   left_past : length xs ≤ h.sector → left_sectors tear (Some h) xs ≡ xs
   left_past l = set_past xs h.sector _ l
 
@@ -55,23 +64,27 @@ module _ (tear : ℕ) (xs : List (List ℕ)) (h : Held) where
   spot : (k : ℕ) → (k ≡ h.sector → ⊥) ⊎ (((k ≡ h.sector) × (h.sector < length xs)) ⊎ (length xs ≤ h.sector))
   spot k = ⊎_elim (λ e. inr (⊎_elim (λ l. inl (e, l)) inr (cases_lt h.sector (length xs)))) inl (cases_eq k h.sector)
 
+  -- sector k is left as it was kept, as it was read, or not sound
   abbrev OneOf : ℕ → Type 0
   OneOf k =
       (at (left_sectors tear (Some h) xs) k ≡ at (before (Some h) xs) k)
       ⊎ ((at (left_sectors tear (Some h) xs) k ≡ at xs k) ⊎ (sound (at (left_sectors tear (Some h) xs) k) ≡ false))
 
+  -- so it is of the sector that is torn
   torn_one_of : h.sector < length xs → OneOf h.sector
   torn_one_of l =
       ⊎_elim (λ e. inl (left_at l ∙ e ∙ sym (before_at l)))
       (⊎_elim (λ e. inr (inl (left_at l ∙ e))) (λ e. inr (inr (ap sound (left_at l) ∙ e))))
       (mended_one_of (mixture (tear % 33) h.old (at xs h.sector)) h.old (at xs h.sector))
 
+  -- and of every sector
   held_one_of : (k : ℕ) → OneOf k
   held_one_of k =
       ⊎_elim (λ ne. inr (inl (left_other k ne)))
       (⊎_elim (λ p. subst OneOf (sym p.0) (torn_one_of p.1)) (λ l. inr (inl (ap (λ (ys : List (List ℕ)). at ys k) (left_past l)))))
       (spot k)
 
+  -- the torn sector stays where its two contents are the same
   torn-settled :
       h.sector < length xs → at (before (Some h) xs) h.sector ≡ at xs h.sector →
       at (left_sectors tear (Some h) xs) h.sector ≡ at xs h.sector
@@ -80,9 +93,11 @@ module _ (tear : ℕ) (xs : List (List ℕ)) (h : Held) where
       ∙ ap (λ (old : List ℕ). torn tear old (at xs h.sector)) (sym (before_at l) ∙ e)
       ∙ torn_equal tear (at xs h.sector)
 
+  -- sector k stays where what is kept of it is what is read
   abbrev Settled : ℕ → Type 0
   Settled k = at (before (Some h) xs) k ≡ at xs k → at (left_sectors tear (Some h) xs) k ≡ at xs k
 
+  -- so it is of every sector
   held-settled : (k : ℕ) → Settled k
   held-settled k =
       ⊎_elim (λ ne e. left_other k ne)
@@ -104,6 +119,7 @@ left-settled :
 left-settled tear None xs k e = refl
 left-settled tear (Some h) xs k e = held-settled tear xs h k e
 
+-- a cut leaves as many sectors
 length-left : (tear : ℕ) (h : Option Held) (xs : List (List ℕ)) → length (left_sectors tear h xs) ≡ length xs
 length-left tear None xs = refl
 length-left tear (Some h) xs = length-set xs h.sector _
@@ -135,6 +151,7 @@ pub before-write :
 before-write h xs i bytes k =
     inr (inl (ap (λ (ys : List (List ℕ)). at ys k) (set-set xs i bytes (at xs i) ∙ set-get_or xs i [])))
 
+-- the torn disk keeps the laws
 pub torn_lawful : LawfulHolding latest_write
 torn_lawful =
     record { nothing_before = λ xs. refl; before_count = before-count; before_write = before-write; cuts = cut_by_tear }

@@ -23,8 +23,9 @@ pub record LawfulKind (k : Numbering) : Type 0 where
   pub tags : k.tag < 2 ^ 8
   -- the top is below 2^53
   pub tops : k.top.0 < 2 ^ 53
-  -- a block has 1 to 2^28 ranks
+  -- a block has at least one rank
   pub least : 1 ≤ k.block
+  -- and at most 2^28
   pub most : k.block ≤ 2 ^ 28
   -- in each of the series 0 to 7 identifiers rise with the rank, as far as the top
   pub rising :

@@ -8,10 +8,11 @@ use Rattle.kind.specs.declared.fault.SettingFault.{SettingFault}
 abbrev pub IsWithin : ℕ → ℕ → ℕ → Type 0
 IsWithin low high n = (low ≤ n) × (n ≤ high)
 
--- the test of that, and that it tells so
+-- the test of that
 abbrev pub is_within : ℕ → ℕ → ℕ → Bool
 is_within low high n = nat_le low n && nat_le n high
 
+-- where the test passes, the number is in the range
 pub within_by_test : (low high n : ℕ) → IsTrue (is_within low high n) → IsWithin low high n
 within_by_test low high n passed =
     let both = and_parts (nat_le low n) (nat_le n high) passed in
