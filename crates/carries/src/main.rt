@@ -2,8 +2,14 @@
 // of its sixteen writes and flushes in turn.
 #![tactic(auto)]
 
+ghost use Rattle.std.specs.Prelude.{Some, IfOk, IsOkAnd, flat_map};
+ghost use Rattle.ring.specs.Left.{LawfulReservation};
+ghost use Rattle.ring.specs.Ring.{Agrees};
+ghost use Rattle.carries.specs.Texts.{work_text, answer_text, end_text, in_two_columns, recovered_text};
+ghost use Rattle.carries.specs.Stops.{format, Filled, Stops};
+
 use disk::{Disk, HoldBack, LatestWrite, MemoryDisk, WriteThrough};
-use record::{Rank, SECTOR_BYTES};
+use record::{Rank, SECTOR_BYTES, Sequence};
 use ring::{Reserved, Ring, RingFault, Work};
 use std::{fmt, io};
 
@@ -25,8 +31,33 @@ struct Answer(Result<Reserved, RingFault>);
 #[derive(Clone, Copy)]
 struct Recovered(Result<Ring, RingFault>);
 
+// The ends of the eight series, each with a space before it.
+#[derive(Clone, Copy)]
+struct Ends([Rank; 8]);
+
+// What was being written when the current failed.
+#[derive(Clone, Copy)]
+struct Doing(Work);
+
+// A top record, in two columns at least.
+#[derive(Clone, Copy)]
+struct Top(Sequence);
+
+impl fmt::Display for Doing {
+    ghost output = { λ doing. Some (work_text doing.0) };
+
+    fn fmt<W: fmt::Write>(&self, f: &mut fmt::Formatter<W>) -> fmt::Result {
+        match self.0 {
+            Work::Carry(series) => write!(f, "carry of {series} "),
+            Work::Reservation(_) => write!(f, "reservation"),
+        }
+    }
+}
+
+// Blanks after the shorter texts keep what follows in one column.
 impl fmt::Display for Answer {
-    // Blanks after the shorter texts keep what follows in one column.
+    ghost output = { λ answer. Some (answer_text answer.0) };
+
     fn fmt<W: fmt::Write>(&self, f: &mut fmt::Formatter<W>) -> fmt::Result {
         match self.0 {
             Ok(reserved) => write!(
@@ -37,41 +68,75 @@ impl fmt::Display for Answer {
             Err(RingFault::Interrupted(stopped)) => {
                 let operation = stopped.fault.operation;
                 let sector = stopped.fault.sector;
-                write!(f, "dark at the {operation} of sector {sector}, ")?;
-                match stopped.work {
-                    Work::Carry(series) => write!(f, "carry of {series} "),
-                    Work::Reservation(_) => f.write_str("reservation"),
-                }
+                let doing = Doing(stopped.work);
+                write!(f, "dark at the {operation} of sector {sector}, {doing}")
             }
             Err(fault) => write!(f, "denied with {}", fault.number()),
         }
+    }
+}
+
+impl fmt::Display for Top {
+    ghost output = { λ top. Some (in_two_columns top.0.0) };
+
+    fn fmt<W: fmt::Write>(&self, f: &mut fmt::Formatter<W>) -> fmt::Result {
+        let number = self.0.0;
+        if number < 10 {
+            write!(f, " {number}")
+        } else {
+            write!(f, "{number}")
+        }
+    }
+}
+
+// The ends stand in the order of their series.
+impl fmt::Display for Ends {
+    ghost output = { λ ends. Some (flat_map end_text ends.0) };
+
+    fn fmt<W: fmt::Write>(&self, f: &mut fmt::Formatter<W>) -> fmt::Result {
+        for end in self.0 {
+            write!(f, " {}", end.0)?;
+        }
+        Ok(())
     }
 }
 
 impl fmt::Display for Recovered {
-    // The ends stand in the order of their series.
+    ghost output = { λ recovered. Some (recovered_text recovered.0) };
+
     fn fmt<W: fmt::Write>(&self, f: &mut fmt::Formatter<W>) -> fmt::Result {
         match self.0 {
             Ok(ring) => {
-                write!(f, "top record {:>2}, ends", ring.top_record().0)?;
-                for end in ring.ends() {
-                    write!(f, " {}", end.0)?;
-                }
-                Ok(())
+                let top = Top(ring.top_record());
+                let ends = Ends(ring.ends());
+                write!(f, "top record {top}, ends{ends}")
             }
             Err(fault) => write!(f, "denied with {}", fault.number()),
         }
     }
 }
 
-// The requests that close the ring: one for each of series 0 to 6, then two for series 7.
-fn fill<D: Disk>(disk: &mut D, ring: &mut Ring) -> Result<(), RingFault> {
-    for series in 0..7u8 {
+// The nine reservations that fill the ring: one of each series, and a second one of series 7.
+fn fill<D: Disk>(disk: &mut D, ring: &mut Ring) -> Result<(), RingFault>
+    ensures { Agrees ring.old (D.meaning disk.old) → IfOk result (λ _. Filled ring.old.format (D.meaning disk.old) 9 (D.meaning disk.new)) }
+{
+    for series in 0..8u8 {
         ring.reserve(disk, series, Rank(1))?;
     }
-    ring.reserve(disk, 7, Rank(1))?;
     ring.reserve(disk, 7, Rank(2))?;
     Ok(())
+}
+
+// The current fails and comes back with so much supply; then the reservation with seven carries, a cut, and recovery.
+fn stop<D: Disk>(disk: &mut D, supply: u64, tear: u64) -> Result<(Answer, Recovered), RingFault>
+    ensures { LawfulReservation (format (D.meaning disk.old)) 7 3 (D.meaning disk.old) → IsOkAnd result (λ told. Stops (D.meaning disk.old) supply told.0.0 told.1.0 (D.meaning disk.new)) }
+{
+    disk.cut(0, supply);
+    let mut ring = Ring::recover(disk, TAG, TOP)?;
+    let answer = ring.reserve(disk, 7, Rank(3));
+    disk.cut(tear, SUPPLY);
+    let recovered = Ring::recover(disk, TAG, TOP);
+    Ok((Answer(answer), Recovered(recovered)))
 }
 
 // On a new disk that holds back as this type says the ring is filled; then the reservation with seven carries, with so much
@@ -88,13 +153,9 @@ fn stop_at<H: HoldBack>(rt: &HostRuntime, supply: u64, tear: u64) -> io::Result<
     if fill(disk, &mut ring).is_err() {
         return println!(rt; "the ring did not fill");
     }
-    disk.cut(0, supply);
-    let Ok(mut ring) = Ring::recover(disk, TAG, TOP) else {
+    let Ok((answer, recovered)) = stop(disk, supply, tear) else {
         return println!(rt; "the ring does not recover");
     };
-    let answer = Answer(ring.reserve(disk, 7, Rank(3)));
-    disk.cut(tear, SUPPLY);
-    let recovered = Recovered(Ring::recover(disk, TAG, TOP));
     println!(rt; "supply {supply:>2} | {answer} | tear {tear:>2}: {recovered}")
 }
 

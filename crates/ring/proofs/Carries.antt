@@ -3,9 +3,9 @@ use Rattle.std.proofs.Common.{◌≡◌, ℕ, ◌+◌, ◌^◌, ◌<◌, ◌≤�
 use Rattle.std.proofs.lemmas.List.FromFn.{length-map-range_with_len}
 use Rattle.record.specs.declared.sector.Format.{Format}
 use Rattle.record.specs.declared.sector.Record.{Record}
-use Rattle.ring.specs.Ring.{top, live, beyond, carried, next, known, live_among, live_of, left, Sized}
+use Rattle.ring.specs.Ring.{top, live, beyond, carried, next, known, live_among, live_of, Sized}
 use Rattle.ring.specs.declared.known.Live.{Live}
-use Rattle.ring.proofs.Knows.{knows_live, carried_is, left-set}
+use Rattle.ring.proofs.Knows.{left, knows_live, carried_is, left-set}
 use Rattle.ring.proofs.Slots.{Placed, placed}
 use Rattle.ring.proofs.Writes.{Clear, Writable, old_beyond}
 

@@ -1,5 +1,5 @@
 -- What is known stays what is read, and the search for the gap carries each other series once at most.
-use Rattle.std.proofs.Common.{◌≡◌, ℕ, zero, suc, ◌+◌, ◌<◌, ◌≤◌, true, false, not, ◌&&◌, eqb, ltb, leb, ◌≢◌, List, [], ◌∷◌, length, get_or, set, Some, None, sym, refl, ap, ◌∙◌, subst, ⊎_elim, arith}
+use Rattle.std.proofs.Common.{◌≡◌, ℕ, zero, suc, ◌+◌, ◌<◌, ◌≤◌, true, false, cond, not, ◌&&◌, eqb, ltb, leb, ◌≢◌, List, [], ◌∷◌, length, get_or, set, Some, None, sym, refl, ap, ◌∙◌, subst, ⊎_elim, arith}
 use Rattle.std.proofs.lemmas.List.FromFn.{get_or-map-range_with_len, length-map-range_with_len, fill_by_all}
 use Rattle.std.proofs.lemmas.List.{get_or-set_same, get_or-set_other, length-set}
 use Rattle.std.proofs.Math.Bool.{and-true}
@@ -10,10 +10,15 @@ use Rattle.record.specs.declared.sector.Content.TheVariants.{Blank, Foreign, Rec
 use Rattle.record.specs.declared.sector.Format.{Format}
 use Rattle.record.specs.declared.sector.Record.{Record}
 use Rattle.disk.specs.Meaning.{at}
-use Rattle.ring.specs.Ring.{record_in, slot, top, none, live_of, live, gap, beyond, is_live, to_carry, carried, next, with_record, noted, known, live_among, carry_of, left, is_foreign, Native, Sized, Free}
+use Rattle.ring.specs.Ring.{record_in, slot, top, none, live_of, live, gap, beyond, is_live, to_carry, carried, next, with_record, noted, known, live_among, carry_of, is_foreign, Native, Sized, Free}
 use Rattle.ring.specs.declared.known.Live.{Live}
 use Rattle.ring.proofs.Slots.{placed, slot-holds}
 use Rattle.ring.proofs.Writes.{Clear, Writable, gap_lies, old_beyond, content-written, top-written, live_written, live_other, same_length}
+
+-- how many series other than s have a live record no newer than where the search began; the first of the list is series i
+unfoldable pub left : ℕ → ℕ → ℕ → List Live → ℕ
+left start s i [] = 0
+left start s i (l ∷ lives) = cond (not (eqb i s) && leb l.number.0 start) 1 0 + left start s (suc i) lives
 
 -- the eight live records by number
 pub knows_live : (f : Format) (reading : List (List ℕ)) (s : ℕ) → s < 8 → live_among (known f reading).lives s ≡ live f reading s

@@ -9,14 +9,14 @@ use Rattle.disk.specs.Meaning.{Meaning, Wrote, Flushed, Cut}
 use Rattle.disk.specs.declared.fault.Operation.TheVariants.{Write, Flush}
 use Rattle.ring.specs.Left.{Recovers, end_of, LawfulReservation, CutWithin, ReservedWhole, SevenCarries, Follows, stops, carries, OperationsCounted, TopsCounted, ReservationLaws}
 use Rattle.ring.specs.Operations.{Went, performed, outcome, writes_in, dark}
-use Rattle.ring.specs.Ring.{top, live, live_of, gap, beyond, carried, next, with_record, known, reserving, carrying, plan, left, Step}
+use Rattle.ring.specs.Ring.{top, live, live_of, gap, beyond, carried, next, with_record, known, reserving, carrying, plan, Step}
 use Rattle.ring.specs.declared.fault.Work.{Work}
 use Rattle.ring.specs.declared.fault.Work.TheVariants.{Carry, Reservation}
 use Rattle.ring.specs.declared.known.Known.{Known}
 use Rattle.ring.specs.declared.known.Live.{Live}
 use Rattle.ring.proofs.Carries.{carry_clear, carry_fewer, carry_writable}
 use Rattle.ring.proofs.Cuts.{cut_at_rest, cut_unflushed, recovers_blanked, top_blanked, live_blanked}
-use Rattle.ring.proofs.Knows.{carried_is, clear_from, known_written, left_seven, native_written}
+use Rattle.ring.proofs.Knows.{left, carried_is, clear_from, known_written, left_seven, native_written}
 use Rattle.ring.proofs.Searches.{plan-ends, plan_carries}
 use Rattle.ring.proofs.Slots.{live_above, live_is}
 use Rattle.ring.proofs.Writes.{Clear, Writable, gap_lies, beyond_lies, top-written, live_written, live_other, free_written, sized_written}

@@ -1,5 +1,5 @@
 -- One turn of the search: a carry leads on, darkness stops it, and where nothing is to be carried it ends.
-use Rattle.std.proofs.Common.{◌≡◌, ℕ, suc, ◌+◌, ◌-◌, ◌^◌, ◌<◌, cond, eqb, List, [], ◌∷◌, length, set, Some, None, Ok, Err, Result, sym, refl, ap, ◌∙◌, subst, arith}
+use Rattle.std.proofs.Common.{◌≡◌, ℕ, suc, ◌+◌, ◌-◌, ◌^◌, ◌<◌, ◌≤◌, cond, eqb, List, [], ◌∷◌, length, set, Some, None, Ok, Err, Result, sym, refl, ap, ◌∙◌, subst, arith}
 use Rattle.std.proofs.lemmas.Grind.{common_steps}
 use Rattle.std.proofs.lemmas.List.FromFn.{length-map-range_with_len}
 use Rattle.std.proofs.lemmas.Bool.{lt-ltb}
@@ -13,15 +13,24 @@ use Rattle.disk.specs.declared.fault.DiskFault.{DiskFault}
 use Rattle.disk.specs.declared.fault.Operation.{Operation}
 use Rattle.disk.specs.declared.fault.Operation.TheVariants.{Write, Flush}
 use Rattle.ring.specs.Operations.{Op, put, settle, Went, performed, outcome, Writes}
-use Rattle.ring.specs.Ring.{top, live, gap, carried, next, with_record, known, live_of, known_gap, next_of, with_noted, reserving, carrying, first_then, plan, left, Agrees, Step}
-use Rattle.ring.specs.Search.{Searching, Cleared, Stopped, MaySearch}
+use Rattle.ring.specs.Ring.{top, live, gap, carried, next, with_record, known, live_of, known_gap, next_of, with_noted, reserving, carrying, first_then, plan, Agrees, Step}
+use Rattle.ring.specs.Search.{Continues, Cleared, Stopped, MaySearch}
 use Rattle.ring.specs.declared.fault.RingFault.TheVariants.{Interrupted}
 use Rattle.ring.specs.declared.fault.Work.TheVariants.{Carry}
 use Rattle.ring.specs.declared.ring.Ring.{Ring}
 use Rattle.ring.specs.declared.token.Reserved.{Reserved}
 use Rattle.ring.proofs.Carries.{carry_fewer, carry_writable, carry_clear}
-use Rattle.ring.proofs.Knows.{known_written, native_written, left_seven}
+use Rattle.ring.proofs.Knows.{left, known_written, native_written, left_seven}
 use Rattle.ring.proofs.Writes.{Clear, Writable, top-written, free_written, sized_written}
+
+-- a search under way: as many carries are left at most as other series have a live record no newer than the start
+pub record Searching (f : Format) (s : ℕ) (whole : Meaning) (r : Ring) (m : Meaning) : Type 0 where
+  pub agrees : Agrees r m
+  pub format : r.format ≡ f
+  pub since : top f whole.reading ≤ top f m.reading
+  pub few : top f m.reading + left (top f whole.reading) s 0 r.known.lives ≤ top f whole.reading + 7
+  pub rest :
+      Continues f s whole m (λ end. plan f (top f whole.reading + 7 - top f m.reading) s end m.reading)
 
 -- the plan, by whether something is to be carried
 pub plan-ends : (f : Format) (n s end : ℕ) (reading : List (List ℕ)) → carried f reading s ≡ None → plan f n s end reading ≡ reserving f reading s end ∷ []

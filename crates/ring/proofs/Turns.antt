@@ -8,16 +8,16 @@ use Rattle.record.specs.declared.sector.Record.{Record}
 use Rattle.disk.specs.Meaning.{Meaning, at, Flushed}
 use Rattle.disk.specs.declared.fault.DiskFault.{DiskFault}
 use Rattle.ring.specs.Operations.{Writes, Denied}
-use Rattle.ring.specs.Ring.{top, beyond, carried, carry_of, live_among, live_of, left, noted, next_known, Agrees}
-use Rattle.ring.specs.Search.{Searching, Cleared, Stopped}
+use Rattle.ring.specs.Ring.{top, beyond, carried, carry_of, live_among, live_of, noted, next_known, Agrees}
+use Rattle.ring.specs.Search.{Cleared, Stopped}
 use Rattle.ring.specs.declared.fault.RingFault.TheVariants.{Interrupted as Dark}
 use Rattle.ring.specs.declared.fault.Interrupted.{Interrupted}
 use Rattle.ring.specs.declared.fault.Work.{Work}
 use Rattle.ring.specs.declared.fault.Work.TheVariants.{Carry}
 use Rattle.ring.specs.declared.known.Known.{Known}
 use Rattle.ring.specs.declared.ring.Ring.{Ring}
-use Rattle.ring.proofs.Knows.{carry_is, left-set}
-use Rattle.ring.proofs.Searches.{search_ends, search_goes_on, stops_at_write, stops_at_flush}
+use Rattle.ring.proofs.Knows.{left, carry_is, left-set}
+use Rattle.ring.proofs.Searches.{Searching, search_ends, search_goes_on, stops_at_write, stops_at_flush}
 
 -- the top rises with a record
 pub noted_since : (k k' : Known) (s : ℕ) (end : Rank) (start : ℕ) → start < 2 ^ 63 → start ≤ k.top.0 → k' ≡ noted k (next_known k s end) → start ≤ k'.top.0

@@ -19,6 +19,7 @@ pub data Op : Type 0 where
   put : ℕ → List ℕ → Op
   settle : Op
 
+-- what an operation does to the meaning
 abbrev pub Does : Meaning → Op → Meaning → Type 0
 Does m (put i bytes) after = Wrote m i bytes after
 Does m settle after = Flushed m after

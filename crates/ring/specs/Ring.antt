@@ -31,11 +31,12 @@ abbrev pub number_in : Option Record → ℕ
 number_in None = 0
 number_in (Some r) = r.sequence.0
 
--- the highest number in the first n sectors, and in all of them
+-- the highest number in the first n sectors
 unfoldable pub top_below : Format → List (List ℕ) → ℕ → ℕ
 top_below f reading zero = 0
 top_below f reading (suc n) = max (top_below f reading n) (number_in (slot f reading n))
 
+-- the top record: the highest number in all sectors, 0 without a record
 unfoldable pub top : Format → List (List ℕ) → ℕ
 top f reading = top_below f reading (length reading)
 
@@ -56,11 +57,12 @@ live_in s (Some r) = cond (r.series == s) (live_of r) none
 abbrev pub newer : Live → Live → Live
 newer a b = cond (nat_lt a.number.0 b.number.0) b a
 
--- the live record of a series among the first n sectors, and among all of them
+-- the live record of a series among the first n sectors
 unfoldable pub live_below : Format → List (List ℕ) → ℕ → ℕ → Live
 live_below f reading s zero = none
 live_below f reading s (suc n) = newer (live_below f reading s n) (live_in s (slot f reading n))
 
+-- the live record of a series: the one of its records with the highest number
 unfoldable pub live : Format → List (List ℕ) → ℕ → Live
 live f reading s = live_below f reading s (length reading)
 
@@ -68,10 +70,11 @@ live f reading s = live_below f reading s (length reading)
 abbrev pub noted : Known → Record → Known
 noted k r = record { top = r.sequence; lives = slice_set k.lives r.series (live_of r) }
 
--- the sector that the next record goes to, and the one after it
+-- the sector that the next record goes to
 abbrev pub gap : Format → List (List ℕ) → ℕ
 gap f reading = (top f reading + 1) % length reading
 
+-- the sector after the gap
 abbrev pub beyond : Format → List (List ℕ) → ℕ
 beyond f reading = (top f reading + 2) % length reading
 
@@ -119,10 +122,11 @@ pub record Step : Type 0 where
   pub sector : ℕ
   pub entry : Record
 
--- the write of the reservation itself, and that of a carry
+-- the write of the reservation itself
 abbrev pub reserving : Format → List (List ℕ) → ℕ → ℕ → Step
 reserving f reading s end = record { work = Reservation s; sector = gap f reading; entry = next f reading s end }
 
+-- the write of a carry: the record once more, with the next number and its own end
 abbrev pub carrying : Format → List (List ℕ) → Record → Step
 carrying f reading r =
     record { work = Carry r.series; sector = gap f reading; entry = next f reading r.series r.end.0 }
@@ -182,17 +186,13 @@ live_by k Blank = false
 live_by k Foreign = false
 live_by k (Holds r) = nat_lt r.series 8 && r.sequence.0 == (live_among k.lives r.series).number.0
 
--- how many series other than s have a live record no newer than where the search began; the first of the list is series i
-unfoldable pub left : ℕ → ℕ → ℕ → List Live → ℕ
-left start s i [] = 0
-left start s i (l ∷ lives) = cond (not (i == s) && nat_le l.number.0 start) 1 0 + left start s (suc i) lives
-
--- no sector is foreign
+-- whether a sector is foreign
 abbrev pub is_foreign : Content → Bool
 is_foreign Blank = false
 is_foreign Foreign = true
 is_foreign (Holds r) = false
 
+-- no sector is foreign
 abbrev pub Native : Format → List (List ℕ) → Type 0
 Native f reading = (k : ℕ) → k < length reading → is_foreign (content f k (at reading k)) ≡ false
 
@@ -203,13 +203,15 @@ pub record Agrees (r : Ring) (m : Meaning) : Type 0 where
   pub free : Free r.format m.reading
   pub native : Native r.format m.reading
 
--- the gap and the next record as the ring knows them, and the ring once that record is written
+-- the gap as the ring knows it
 abbrev pub known_gap : Ring → ℕ
 known_gap r = named (min (r.known.top.0 + 1) (2 ^ 64 - 1)) r.format.sectors
 
+-- the next record as the ring knows it
 abbrev pub next_of : Ring → ℕ → Rank → Record
 next_of r s end = next_known r.known s end
 
+-- the ring once a record is written that is newer than all others
 abbrev pub with_noted : Ring → Record → Ring
 with_noted r entry = record { format = r.format; known = noted r.known entry }
 

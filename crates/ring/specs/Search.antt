@@ -4,7 +4,7 @@ use Rattle.record.specs.declared.numbers.Rank.{Rank}
 use Rattle.record.specs.declared.sector.Format.{Format}
 use Rattle.disk.specs.Meaning.{Meaning}
 use Rattle.ring.specs.Operations.{Went, performed, outcome, Writes}
-use Rattle.ring.specs.Ring.{top, carried, plan, reserving, left, known_gap, Agrees, Step}
+use Rattle.ring.specs.Ring.{top, carried, plan, reserving, known_gap, Agrees, Step}
 use Rattle.ring.specs.declared.fault.RingFault.{RingFault}
 use Rattle.ring.specs.declared.fault.RingFault.TheVariants.{Series, End, Exhausted}
 use Rattle.ring.specs.declared.ring.Ring.{Ring}
@@ -20,15 +20,6 @@ pub record Continues (f : Format) (s : ℕ) (whole : Meaning) (m : Meaning) (ste
       (end : ℕ) (after : Meaning) →
       Went m (performed f (steps end) m.supply) after →
       Went whole (performed f (plan f 7 s end whole.reading) whole.supply) after
-
--- a search under way: as many carries are left at most as other series have a live record no newer than the start
-pub record Searching (f : Format) (s : ℕ) (whole : Meaning) (r : Ring) (m : Meaning) : Type 0 where
-  pub agrees : Agrees r m
-  pub format : r.format ≡ f
-  pub since : top f whole.reading ≤ top f m.reading
-  pub few : top f m.reading + left (top f whole.reading) s 0 r.known.lives ≤ top f whole.reading + 7
-  pub rest :
-      Continues f s whole m (λ end. plan f (top f whole.reading + 7 - top f m.reading) s end m.reading)
 
 -- a search at its end: nothing is to be carried, and the reservation itself is left
 pub record Cleared (f : Format) (s : ℕ) (whole : Meaning) (r : Ring) (m : Meaning) : Type 0 where

@@ -1,7 +1,8 @@
 -- The search goes on from where it began, and fewer live records are left to carry with each turn.
 use Rattle.std.proofs.Common.{◌≤◌}
-use Rattle.ring.specs.Ring.{left}
-use Rattle.ring.specs.Search.{MaySearch, Searching}
+use Rattle.ring.specs.Search.{MaySearch}
+use Rattle.ring.proofs.Knows.{left}
+use Rattle.ring.proofs.Searches.{Searching}
 use Rattle.ring.proofs.ring.Ring.clear_the_way.Given as goal
 
 abbrev pub invariant-loop-content : goal.invariant-loop-content

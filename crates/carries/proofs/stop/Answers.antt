@@ -1,0 +1,11 @@
+-- The reservation and the recoveries answer one after the other.
+use Rattle.carries.proofs.Stopped.{not_denied, stopped}
+use Rattle.carries.proofs.stop.Goals as goal
+
+pub returns-in_err-ring : goal.returns-in_err-ring
+returns-in_err-ring g c lawful = absurd (not_denied _ _ _ lawful c.cut.ensures.meaning _ c.in_err-ring.ensures.answer)
+
+pub returns : goal.returns
+returns g c lawful =
+    stopped _ _ _ lawful c.cut.ensures.meaning _ _ _ _ _ _ c.in_ok-ring.ensures.answer c.reserve-answer.ensures.reserves
+    c.cut-2.ensures.meaning c.recover-recovered.ensures.answer

@@ -1,0 +1,45 @@
+-- The reservations that fill the ring; then the one with seven carries, stopped by the current, and what recovery finds.
+use Rattle.std.specs.Prelude.{◌≡◌, ℕ, zero, suc, cond, nat_lt, Ok, Result}
+use Rattle.record.specs.declared.sector.Format.{Format}
+use Rattle.disk.specs.Meaning.{Meaning, Cut, count}
+use Rattle.ring.specs.Left.{Left}
+use Rattle.ring.specs.Operations.{Went, performed, outcome}
+use Rattle.ring.specs.Ring.{plan, recovered}
+use Rattle.ring.specs.declared.fault.RingFault.{RingFault}
+use Rattle.ring.specs.declared.ring.Ring.{Ring}
+use Rattle.ring.specs.declared.token.Reserved.{Reserved}
+
+-- serial records on a disk of so many sectors
+abbrev pub format : Meaning → Format
+format m = record { tag = 1; top = record { 0 = 999999998 }; sectors = count m }
+
+-- the nine reservations that fill the ring, from number 0 on: one of each series, and a second one of series 7
+abbrev pub filling : ℕ → Reserved
+filling n = cond (nat_lt n 8) (record { series = n; end = record { 0 = 1 } }) (record { series = 7; end = record { 0 = 2 } })
+
+-- a reservation that was made: its plan succeeds with the supply there was, and its writes and flushes are all that was done
+pub record Made (f : Format) (r : Reserved) (m after : Meaning) : Type 0 where
+  pub answers : outcome r (plan f 7 r.series r.end.0 m.reading) m.supply ≡ Ok r
+  pub goes : Went m (performed f (plan f 7 r.series r.end.0 m.reading) m.supply) after
+
+-- the first so many of the nine were made, one after the other
+unfoldable pub Filled : Format → Meaning → ℕ → Meaning → Type 0
+Filled f start zero m = m ≡ start
+Filled f start (suc n) m = (before : Meaning) × Filled f start n before × Made f (filling n) before m
+
+-- the third reservation of series 7
+abbrev pub third : Reserved
+third = record { series = 7; end = record { 0 = 3 } }
+
+-- the current fails and comes back with so much supply; the reservation answers what its plan answers with that supply, and
+-- makes the writes and flushes that it allows; then a cut comes, and recovery answers as the sectors read, which is a ring with the
+-- old ends or the new one
+pub record Stops (start : Meaning) (supply : ℕ) (answer : Result Reserved RingFault) (found : Result Ring RingFault) (end : Meaning) : Type 0 where
+  pub woken : Meaning
+  pub begins : Cut start supply woken
+  pub answers : outcome third (plan (format start) 7 7 3 start.reading) supply ≡ answer
+  pub after : Meaning
+  pub goes : Went woken (performed (format start) (plan (format start) 7 7 3 start.reading) supply) after
+  pub ends : Cut after 1000 end
+  pub finds : found ≡ recovered (format start) end.reading
+  pub leaves : Left (format start) 7 3 start.reading end.reading

@@ -1,0 +1,51 @@
+-- What is printed of a reservation's answer, and of what recovery finds.
+use Rattle.std.specs.Prelude.{ℕ, cond, List, ◌++◌, codes, decimal, flat_map, nat_lt, Ok, Err, Result}
+use Rattle.record.specs.declared.numbers.Rank.{Rank}
+use Rattle.disk.specs.Meaning.{name_of}
+use Rattle.ring.specs.Faults.{number_of}
+use Rattle.ring.specs.Ring.{known_ends}
+use Rattle.ring.specs.declared.fault.RingFault.{RingFault}
+use Rattle.ring.specs.declared.fault.RingFault.TheVariants.{Size, Foreign, LiveInGap, Series, End, Exhausted, Disk, Interrupted}
+use Rattle.ring.specs.declared.fault.Work.{Work}
+use Rattle.ring.specs.declared.fault.Work.TheVariants.{Carry, Reservation}
+use Rattle.ring.specs.declared.ring.Ring.{Ring}
+use Rattle.ring.specs.declared.token.Reserved.{Reserved}
+
+-- what was being written
+abbrev pub work_text : Work → List ℕ
+work_text (Carry series) = codes "carry of " ++ (decimal series ++ codes " ")
+work_text (Reservation series) = codes "reservation"
+
+-- a denial by its number
+abbrev pub denial_text : RingFault → List ℕ
+denial_text fault = codes "denied with " ++ decimal (number_of fault)
+
+-- a denial of a reservation: where it was stopped, or its number
+abbrev pub stopped_text : RingFault → List ℕ
+stopped_text (Size count) = denial_text (Size count)
+stopped_text (Foreign sector) = denial_text (Foreign sector)
+stopped_text (LiveInGap sector) = denial_text (LiveInGap sector)
+stopped_text (Series series) = denial_text (Series series)
+stopped_text (End end) = denial_text (End end)
+stopped_text Exhausted = denial_text Exhausted
+stopped_text (Disk fault) = denial_text (Disk fault)
+stopped_text (Interrupted stopped) =
+    codes "dark at the " ++ (name_of stopped.fault.operation ++ (codes " of sector " ++ (decimal stopped.fault.sector ++ (codes ", " ++ work_text stopped.work))))
+
+-- what a reservation answers
+abbrev pub answer_text : Result Reserved RingFault → List ℕ
+answer_text (Ok reserved) = codes "series " ++ (decimal reserved.series ++ codes " has reserved                     ")
+answer_text (Err fault) = stopped_text fault
+
+-- a space and an end
+abbrev pub end_text : Rank → List ℕ
+end_text end = codes " " ++ decimal end.0
+
+-- a number in two columns at least: a space before one that has a single digit
+abbrev pub in_two_columns : ℕ → List ℕ
+in_two_columns number = cond (nat_lt number 10) (codes " " ++ decimal number) (decimal number)
+
+-- what recovery finds: the top record and the ends of the eight series in their order, or the denial
+abbrev pub recovered_text : Result Ring RingFault → List ℕ
+recovered_text (Ok ring) = codes "top record " ++ (in_two_columns ring.known.top.0 ++ (codes ", ends" ++ flat_map end_text (known_ends ring.known)))
+recovered_text (Err fault) = denial_text fault
