@@ -48,6 +48,7 @@ after_reserving k u s rank m (Ok reserved) =
     }
 after_reserving k u s rank m (Err fault) = record { answer = Err (OfRing fault); state = stopped u fault; disk = m }
 
+-- a reservation, by what the ring refuses it for
 abbrev pub reserved_by : Make → Numbering → Up → Meaning → ℕ → Rank → Option RingFault → LeftBy
 reserved_by make k u m s rank (Some fault) = record { answer = Err (OfRing fault); state = stopped u fault; disk = m }
 reserved_by make k u m s rank None =
@@ -106,6 +107,7 @@ abbrev pub stops : Result Answer Denial → Bool
 stops (Ok answer) = false
 stops (Err denial) = ends denial
 
+-- the run after a line: a denial of 2 to 6 has ended it, and the line is counted
 abbrev pub run_after : Run → Done → Run
 run_after run done =
     record {
@@ -114,6 +116,7 @@ run_after run done =
       taken = counted run.taken;
     }
 
+-- the print line of a line
 abbrev pub print_of : Run → Done → List ℕ
 print_of run done = printed (shown_number (counted run.taken)) (columns_of done.answer)
 
@@ -127,6 +130,7 @@ abbrev pub print_rest : (Run → List ℕ) → Run → Done → Bool → List �
 print_rest next run done true = []
 print_rest next run done false = next (run_after run done)
 
+-- the print of a line and of what follows it
 abbrev pub print_line : (Run → List ℕ) → Run → Done → List ℕ
 print_line next run done = print_of run done ++ print_rest next run done (stops done.answer)
 

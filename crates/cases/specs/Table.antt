@@ -76,6 +76,7 @@ one_record =
 abbrev pub almost_full : Meaning
 almost_full = record { reading = one_record; kept = one_record; supply = 100; beyond = [] }
 
+-- serial identifiers in blocks of three
 abbrev pub serial : AnyKind
 serial = Serial (record { size = 3; in_range = (lit≤ tt, lit≤ tt) })
 

@@ -12,11 +12,12 @@ use Rattle.history.specs.declared.calls.Call.{Call}
 use Rattle.history.specs.declared.calls.Call.TheVariants.{Give, Cut}
 use Rattle.history.specs.declared.calls.Turn.{Turn}
 
--- the call and the answer of an event
+-- the call of an event
 abbrev pub call_of : Event → Call
 call_of (request s reading answer after) = Give s reading
 call_of (cut tear supply answer after) = Cut tear supply
 
+-- the answer of an event
 abbrev pub answer_of : Event → Answer
 answer_of (request s reading answer after) = Gave answer
 answer_of (cut tear supply answer after) = WasCut answer

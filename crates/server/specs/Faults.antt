@@ -25,6 +25,7 @@ ring_sector Exhausted = 0
 ring_sector (Disk fault) = fault.sector
 ring_sector (Interrupted stopped) = stopped.fault.sector
 
+-- the sector that a denial names: only one of the ring does
 abbrev pub sector_of : ServerFault → ℕ
 sector_of (WasDown fault) = 0
 sector_of (Series series) = 0

@@ -24,11 +24,12 @@ latest start [] = start
 latest start (request s reading answer after ∷ past) = after
 latest start (cut tear supply answer after ∷ past) = after
 
--- the floor of a reading, 0 where it has none
+-- a floor, 0 where there is none
 abbrev pub or_zero : Option Rank → ℕ
 or_zero None = 0
 or_zero (Some floor) = floor.0
 
+-- the floor of a reading, 0 where it has none
 abbrev pub floor_of : Numbering → Reading → ℕ
 floor_of k reading = or_zero (k.floor reading)
 
@@ -37,7 +38,7 @@ abbrev pub end_in : Numbering → Meaning → Meaning → ℕ → ℕ
 end_in k start m s = end_of (format k start) m.reading s
 
 -- next: one above the last rank given in the series since the latest cut or the start, or else the series' end as the disk
--- read right after that cut or start. The rank of a request is the larger of next and the reading's floor.
+-- read right after that cut or start
 abbrev pub next : Numbering → Meaning → ℕ → List Event → ℕ
 next k start s [] = end_in k start start s
 next k start s (cut tear supply answer after ∷ past) = end_in k start after s
@@ -45,6 +46,7 @@ next k start s (request t reading (Err fault) after ∷ past) = next k start s p
 next k start s (request t reading (Ok identifier) after ∷ past) =
     cond (t == s) (max (next k start s past) (floor_of k reading) + 1) (next k start s past)
 
+-- the rank of a request: the larger of next and the reading's floor
 abbrev pub rank_of : Numbering → Meaning → ℕ → Reading → List Event → ℕ
 rank_of k start s reading past = max (next k start s past) (floor_of k reading)
 
@@ -86,10 +88,11 @@ labels s (request t reading (Ok identifier) after ∷ past) = cond (t == s) (ide
 abbrev pub needs_block : Numbering → Meaning → ℕ → Reading → List Event → Bool
 needs_block k start s reading past = nat_le (end_in k start (latest start past) s) (rank_of k start s reading past)
 
--- sequence numbers suffice for one more reservation: top record + 8 is not above 2^62 - 1
+-- the top record as the disk reads
 abbrev pub top_record : Numbering → Meaning → List Event → ℕ
 top_record k start past = top (format k start) (latest start past).reading
 
+-- sequence numbers suffice for one more reservation: top record + 8 is not above 2^62 - 1
 abbrev pub numbers_suffice : Numbering → Meaning → List Event → Bool
 numbers_suffice k start past = nat_le (top_record k start past + 8) (2 ^ 62 - 1)
 
@@ -98,8 +101,7 @@ abbrev pub is_lawful : Option Rank → Bool
 is_lawful None = false
 is_lawful (Some floor) = true
 
--- the writes of the ring that a request asks for, on a server that is up: those of a reservation, where it needs one that
--- nothing forbids
+-- a request reserves a block, on a server that is up: it needs one, and nothing forbids it
 abbrev pub reserves : Numbering → Meaning → ℕ → Reading → List Event → Bool
 reserves k start s reading past =
     nat_lt s 8
@@ -107,9 +109,11 @@ reserves k start s reading past =
     && (nat_le (rank_of k start s reading past) k.top.0
     && (needs_block k start s reading past && numbers_suffice k start past)))
 
+-- the end of the block that a request would reserve
 abbrev pub block_to : Numbering → Meaning → ℕ → Reading → List Event → ℕ
 block_to k start s reading past = (block_end k (record { 0 = rank_of k start s reading past })).0
 
+-- the writes that a request asks for, on a server that is up: those of its reservation, and else none
 abbrev pub wanted : Numbering → Meaning → ℕ → Reading → List Event → List Step
 wanted k start s reading past =
     cond (reserves k start s reading past)
@@ -161,11 +165,12 @@ standing k start s next_cut (request t reading answer after ∷ past) =
     (standing k start s next_cut past + 1)
     (standing k start s next_cut past)
 
--- how many of them were made before the one that covers a request's rank: that is the request's own reservation where it
--- makes one, and else the latest
+-- the reservation that covers a request's rank is the request's own where it makes one, and else the latest: that one is not
+-- before it
 abbrev pub one_if_none : List Step → ℕ
 one_if_none [] = 1
 one_if_none (step ∷ steps) = 0
 
+-- how many of a series' reservations were made before the one that covers a request's rank
 abbrev pub reserved_before : Numbering → Meaning → ℕ → Reading → List Event → ℕ
 reserved_before k start s reading past = standing k start s None past - one_if_none (asked k start s reading past)

@@ -25,6 +25,7 @@ abbrev pub IsDenied : Result Identifier ServerFault → Type 0
 IsDenied answer = (fault : ServerFault) × (answer ≡ Err fault)
 
 module _ (k : Numbering) (start : Meaning) (s : ℕ) (reading : Reading) (past : List Event) where
+  -- the rank of the request
   abbrev rank : ℕ
   rank = rank_of k start s reading past
 

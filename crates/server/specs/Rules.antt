@@ -33,6 +33,7 @@ awake (Err fault) = Down fault
 abbrev pub next_in : List Rank → ℕ → Rank
 next_in nexts s = slice_index_or nexts s (record { 0 = 0 })
 
+-- the server with another next rank of a series
 abbrev pub with_next : Up → ℕ → Rank → Up
 with_next u s next = record { ring = u.ring; nexts = slice_set u.nexts s next }
 

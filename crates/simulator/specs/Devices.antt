@@ -54,6 +54,7 @@ abbrev pub kept_by_write : Make → Meaning → ℕ → List ℕ → List (List 
 kept_by_write AFaithful m i bytes = slice_set m.reading i bytes
 kept_by_write ATorn m i bytes = m.reading
 
+-- a disk after a write of bytes into a sector
 abbrev pub written : Make → Meaning → ℕ → List ℕ → Meaning
 written make m i bytes =
     record {
@@ -78,6 +79,7 @@ abbrev pub left_by : Make → ℕ → Meaning → List (List ℕ)
 left_by AFaithful tear m = m.reading
 left_by ATorn tear m = torn_apart tear m.kept m.reading
 
+-- a disk after a cut with a tear and a new supply
 abbrev pub cut_by : Make → ℕ → ℕ → Meaning → Meaning
 cut_by make tear supply m =
     record { reading = left_by make tear m; kept = left_by make tear m; supply = supply; beyond = m.beyond }

@@ -9,22 +9,27 @@ use Rattle.kind.specs.Time.{time_tag, time_top, time_block, time_floor, time_ide
 use Rattle.simulator.specs.declared.any_kind.AnyKind.{AnyKind}
 use Rattle.simulator.specs.declared.any_kind.AnyKind.TheVariants.{Serial, Time}
 
+-- the number by which a record names the kind
 abbrev pub tag_of : AnyKind → ℕ
 tag_of (Serial k) = serial_tag k
 tag_of (Time k) = time_tag k
 
+-- the highest rank that has an identifier
 abbrev pub top_of : AnyKind → Rank
 top_of (Serial k) = serial_top k
 top_of (Time k) = time_top k
 
+-- how many ranks a reservation takes
 abbrev pub block_of : AnyKind → ℕ
 block_of (Serial k) = serial_block k
 block_of (Time k) = time_block k
 
+-- the floor of a reading
 abbrev pub floor_of : AnyKind → Reading → Option Rank
 floor_of (Serial k) = serial_floor k
 floor_of (Time k) = time_floor k
 
+-- the identifier of a rank in a series
 abbrev pub identifier_of : AnyKind → ℕ → Rank → Identifier
 identifier_of (Serial k) = serial_identifier k
 identifier_of (Time k) = time_identifier k

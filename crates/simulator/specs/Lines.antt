@@ -9,6 +9,7 @@ abbrev pub end_after : ℕ → List ℕ → Option ℕ
 end_after n [] = None
 end_after n (b ∷ bs) = cond (b == 10) (Some (n + 1)) (end_after (n + 1) bs)
 
+-- the count of bytes of the first line, its line feed with it
 abbrev pub line_end : List ℕ → Option ℕ
 line_end bytes = end_after 0 bytes
 
@@ -17,6 +18,7 @@ abbrev pub up_to : List ℕ → Option ℕ → List ℕ
 up_to bytes None = bytes
 up_to bytes (Some n) = take n bytes
 
+-- the bytes of the first line of some bytes
 abbrev pub first_bytes : List ℕ → List ℕ
 first_bytes bytes = up_to bytes (line_end bytes)
 

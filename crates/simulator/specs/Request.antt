@@ -18,6 +18,7 @@ command_for letter =
     (cond (letter == 71) (Some Give)
     (cond (letter == 67) (Some Cut) None)))))
 
+-- the command of a line, by its first byte
 abbrev pub command_in : List ℕ → Option Command
 command_in [] = None
 command_in (letter ∷ rest) = command_for letter

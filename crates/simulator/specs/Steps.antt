@@ -36,10 +36,11 @@ pub record Done : Type 0 where
   pub answer : Result Answer Denial
   pub after : View
 
--- a line that is denied, and one that sets something
+-- a line that is denied
 abbrev pub denied : Denial → View → Done
 denied denial v = record { answer = Err denial; after = v }
 
+-- a line that sets something
 abbrev pub set_up : View → Done
 set_up v = record { answer = Ok Set; after = v }
 
@@ -68,6 +69,7 @@ abbrev pub with_time : View → Result TimeKind SettingFault → Done
 with_time v (Err fault) = denied (Setting fault) v
 with_time v (Ok k) = set_up (started (kind.Time k) v)
 
+-- the same by the correction byte
 abbrev pub with_correction : View → Lease → ℕ → Result Correction SettingFault → Done
 with_correction v lease box (Err fault) = denied (Setting fault) v
 with_correction v lease box (Ok correction) = with_time v (time_kind_of lease box correction)

@@ -54,17 +54,19 @@ Takes v taken line print r after taken' print' =
     (Taken v taken line print r after taken' print')
     (NotTaken v taken print r after taken' print')
 
--- the very bytes of the memory that a run holds
+-- the very bytes of the memory of a disk
 abbrev pub device_bytes : Device → List ℕ
 device_bytes (Faithful d) = d.sectors.memory.now
 device_bytes (Torn d) = d.sectors.memory.now
 
+-- the bytes that are left of a run that has ended
 abbrev pub left_bytes : Left → List ℕ
 left_bytes left.Nothing = []
 left_bytes (left.Memory memory) = memory.now
 left_bytes (left.Disk disk spare) = device_bytes disk ++ spare.now
 left_bytes (left.Server server spare) = device_bytes server.disk ++ spare.now
 
+-- the bytes at a stage
 abbrev pub stage_bytes : Stage → List ℕ
 stage_bytes (stage.Device memory) = memory.now
 stage_bytes (stage.Kind disk spare) = device_bytes disk ++ spare.now

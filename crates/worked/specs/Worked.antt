@@ -18,17 +18,19 @@ use Rattle.server.specs.declared.fault.ServerFault.TheVariants.{Ring}
 use Rattle.server.specs.declared.state.State.{State}
 use Rattle.worked.specs.Blank.{zeros, cleared}
 
--- the serial kind that reserves one rank at a time, on a disk of ten cleared sectors with three writes and flushes to succeed
+-- the serial kind that reserves one rank at a time
 abbrev pub one_by_one : Numbering
 one_by_one = serial_numbering (record { size = 1; in_range = (lit≤ tt, lit≤ tt) })
 
+-- a disk of ten cleared sectors with three writes and flushes to succeed
 abbrev pub start : Meaning
 start = cleared 10 3
 
--- record n of series 2, which reserves rank n - 1, as it lies in a sector
+-- record n of series 2, which reserves rank n - 1
 abbrev pub entry : ℕ → Record
 entry n = record { series = 2; sequence = record { 0 = n }; end = record { 0 = n } }
 
+-- the bytes of that record
 abbrev pub written : ℕ → List ℕ
 written n = encoded 1 (entry n)
 
@@ -36,23 +38,27 @@ written n = encoded 1 (entry n)
 abbrev pub with_one : List (List ℕ)
 with_one = slice_set (zeros 10) 1 (written 1)
 
--- then record 2 is written into sector 2; the cut leaves its first 20 bytes, and zeros after them
+-- then record 2 is written into sector 2
 abbrev pub with_two : List (List ℕ)
 with_two = slice_set with_one 2 (written 2)
 
+-- the cut leaves its first 20 bytes, and zeros after them
 abbrev pub with_part : List (List ℕ)
 with_part = slice_set with_one 2 (mixture 20 (replicate 32 0) (written 2))
 
--- the disk after each call
+-- record 1 is written and flushed
 abbrev pub after_first : Meaning
 after_first = record { reading = with_one; kept = with_one; supply = 1; beyond = [] }
 
+-- record 2 is written and not flushed
 abbrev pub after_second : Meaning
 after_second = record { reading = with_two; kept = with_one; supply = 0; beyond = [] }
 
+-- the current is back, with nine writes and flushes to succeed
 abbrev pub after_cut : Meaning
 after_cut = record { reading = with_part; kept = with_part; supply = 9; beyond = [] }
 
+-- record 2 is written anew and flushed
 abbrev pub after_third : Meaning
 after_third = record { reading = with_two; kept = with_two; supply = 7; beyond = [] }
 
@@ -60,16 +66,19 @@ after_third = record { reading = with_two; kept = with_two; supply = 7; beyond =
 abbrev pub stop : RingFault
 stop = Interrupted (record { work = Reservation 2; fault = denied Dark Flush 2 })
 
--- the calls: identifier 1 is given, the current fails, the cut answers top record 1, and identifier 2 is given
+-- identifier 1 is given
 abbrev pub first : Event
 first = request 2 (record { 0 = 0 }) (Ok (record { 0 = 1 })) after_first
 
+-- the flush of its reservation goes dark
 abbrev pub second : Event
 second = request 2 (record { 0 = 0 }) (Err (Ring stop)) after_second
 
+-- the power is cut: the top record is 1
 abbrev pub power_cut : Event
 power_cut = cut 20 9 (Ok (record { 0 = 1 })) after_cut
 
+-- identifier 2 is given
 abbrev pub third : Event
 third = request 2 (record { 0 = 0 }) (Ok (record { 0 = 2 })) after_third
 
