@@ -1,2 +1,3 @@
 pub mod Fills
+pub mod Rests
 pub mod Stopped

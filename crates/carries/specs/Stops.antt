@@ -43,3 +43,9 @@ pub record Stops (start : Meaning) (supply : ℕ) (answer : Result Reserved Ring
   pub ends : Cut after 1000 end
   pub finds : found ≡ recovered (format start) end.reading
   pub leaves : Left (format start) 7 3 start.reading end.reading
+
+-- a disk was filled, and then stopped
+pub record FilledAndStopped (start : Meaning) (supply : ℕ) (answer : Result Reserved RingFault) (found : Result Ring RingFault) (end : Meaning) : Type 0 where
+  pub filled : Meaning
+  pub fills : Filled (format start) start 9 filled
+  pub stops : Stops filled supply answer found end

@@ -3,10 +3,10 @@
 #![tactic(auto)]
 
 ghost use Rattle.std.specs.Prelude.{Some, IfOk, IsOkAnd, flat_map};
-ghost use Rattle.ring.specs.Left.{LawfulReservation};
+ghost use Rattle.ring.specs.Left.{LawfulReservation, WithoutRecords};
 ghost use Rattle.ring.specs.Ring.{Agrees};
 ghost use Rattle.carries.specs.Texts.{work_text, answer_text, end_text, in_two_columns, recovered_text};
-ghost use Rattle.carries.specs.Stops.{format, Filled, Stops};
+ghost use Rattle.carries.specs.Stops.{format, Filled, Stops, FilledAndStopped};
 
 use disk::{Disk, HoldBack, LatestWrite, MemoryDisk, WriteThrough};
 use record::{Rank, SECTOR_BYTES, Sequence};
@@ -139,22 +139,27 @@ fn stop<D: Disk>(disk: &mut D, supply: u64, tear: u64) -> Result<(Answer, Recove
     Ok((Answer(answer), Recovered(recovered)))
 }
 
-// On a new disk that holds back as this type says the ring is filled; then the reservation with seven carries, with so much
-// supply, and a cut after it.
+// A disk is filled, and then stopped.
+fn fill_and_stop<D: Disk>(
+    disk: &mut D,
+    supply: u64,
+    tear: u64,
+) -> Result<(Answer, Recovered), RingFault>
+    ensures { WithoutRecords (D.meaning disk.old) → IfOk result (λ told. FilledAndStopped (D.meaning disk.old) supply told.0.0 told.1.0 (D.meaning disk.new)) }
+{
+    let mut ring = Ring::recover(disk, TAG, TOP)?;
+    fill(disk, &mut ring)?;
+    stop(disk, supply, tear)
+}
+
+// The line of one stop, on a new disk that holds back as this type says.
 fn stop_at<H: HoldBack>(rt: &HostRuntime, supply: u64, tear: u64) -> io::Result<()> {
     let mut memory = [0; BYTES];
     let Ok(mut disk) = MemoryDisk::<H>::new(&mut memory, SECTORS, SUPPLY) else {
         return println!(rt; "no disk");
     };
-    let disk = &mut disk;
-    let Ok(mut ring) = Ring::recover(disk, TAG, TOP) else {
-        return println!(rt; "no ring");
-    };
-    if fill(disk, &mut ring).is_err() {
+    let Ok((answer, recovered)) = fill_and_stop(&mut disk, supply, tear) else {
         return println!(rt; "the ring did not fill");
-    }
-    let Ok((answer, recovered)) = stop(disk, supply, tear) else {
-        return println!(rt; "the ring does not recover");
     };
     println!(rt; "supply {supply:>2} | {answer} | tear {tear:>2}: {recovered}")
 }
