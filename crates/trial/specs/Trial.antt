@@ -21,10 +21,11 @@ older = record { series = 2; sequence = record { 0 = 3 }; end = record { 0 = 200
 abbrev pub newer : Record
 newer = record { series = 2; sequence = record { 0 = 13 }; end = record { 0 = 300 } }
 
--- a disk without records, and the same once the newer record is written
+-- a disk without records
 abbrev pub blank_sectors : List (List ℕ)
 blank_sectors = replicate 10 (replicate 32 0)
 
+-- the same once the newer record is written
 abbrev pub rewritten : List (List ℕ)
 rewritten = slice_set blank_sectors 3 (encoded 1 newer)
 
