@@ -1,5 +1,6 @@
 -- The trials of a disk, and how many of them left what.
-use Rattle.std.specs.Prelude.{ℕ, Bool, true, false, List, length, filter, ◌==◌}
+use Rattle.std.specs.Prelude.{ℕ, ◌-◌, ◌^◌, Bool, true, false, cond, List, ◌++◌, codes, length, filter, ◌==◌}
+use Rattle.std.specs.Fmt.{decimal, format_spec, styled_decimal}
 use Rattle.record.specs.declared.sector.Content.{Content}
 use Rattle.record.specs.declared.sector.Content.TheVariants.{Blank, Foreign, Record as Holds}
 use Rattle.trial.specs.Trial.{older, newer, left_torn, left_faithful}
@@ -44,3 +45,23 @@ leaves outcome.Blank left = is_blank left
 -- so many trials had this outcome
 abbrev pub how_many : Outcome → List Trial → ℕ
 how_many wanted trials = length (filter (λ t. leaves wanted t.left) trials)
+
+-- a number at the right end of two columns
+abbrev pub in_two_columns : ℕ → List ℕ
+in_two_columns n = styled_decimal (format_spec 32 3 0 2 (2 ^ 64 - 1)) n
+
+-- the name of the record with this sequence number
+abbrev pub name_of : ℕ → List ℕ
+name_of number =
+    cond (number == older.sequence.0) (codes "older") (cond (number == newer.sequence.0) (codes "newer") (codes "another"))
+
+-- what the sector reads as, in words
+abbrev pub told : Content → List ℕ
+told Blank = codes "blank"
+told Foreign = codes "foreign"
+told (Holds r) =
+    name_of r.sequence.0 ++ (codes " record, sequence number " ++ (decimal r.sequence.0 ++ (codes ", end " ++ decimal r.end.0)))
+
+-- the line of a trial: its tear, and what the sector reads as
+abbrev pub line_of : Trial → List ℕ
+line_of t = codes "tear " ++ (in_two_columns t.tear ++ (codes ": " ++ told t.left))

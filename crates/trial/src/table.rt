@@ -1,9 +1,9 @@
 // The trials of every tear, and how many of them left what.
-ghost use Rattle.std.specs.Prelude.{◌≡◌, T, map, IfOk};
+ghost use Rattle.std.specs.Prelude.{◌≡◌, T, map, IfOk, Some};
 ghost use Rattle.record.specs.declared.sector.Content.TheVariants.{Record as Holds};
 ghost use Rattle.std.specs.List.{range_with_len, AllByRecursion};
 ghost use Rattle.trial.specs.Trial.{newer, OneOfThree};
-ghost use Rattle.trial.specs.Table.{trial_of, leaves, how_many, stands};
+ghost use Rattle.trial.specs.Table.{trial_of, leaves, how_many, stands, line_of};
 
 use crate::cut::{left_by, newer, older};
 use disk::{LatestWrite, WriteThrough};
@@ -92,6 +92,8 @@ pub fn count(trials: &[Trial], outcome: Outcome) -> usize
 
 // A line for a reader: the tear, and what the sector reads as.
 impl fmt::Display for Trial {
+    ghost output = { λ trial. Some (line_of trial) };
+
     fn fmt<W: fmt::Write>(&self, f: &mut fmt::Formatter<W>) -> fmt::Result {
         let tear = self.tear;
         match self.left {
