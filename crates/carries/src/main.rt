@@ -63,7 +63,7 @@ impl fmt::Display for Answer {
             Ok(reserved) => write!(
                 f,
                 "series {} has reserved                     ",
-                reserved.series
+                reserved.series()
             ),
             Err(RingFault::Interrupted(stopped)) => {
                 let operation = stopped.fault.operation;

@@ -38,7 +38,7 @@ pub record LeftBy : Type 0 where
   pub state : State
   pub disk : Meaning
 
--- a reservation that the ring does not refuse: the disk goes by the operations that succeed; the rank is given only if all do
+-- what the ring's answer makes of a request, on the disk as it is then
 abbrev pub after_reserving : Numbering → Up → ℕ → Rank → Meaning → Result Reserved RingFault → LeftBy
 after_reserving k u s rank m (Ok reserved) =
     record {
@@ -48,7 +48,8 @@ after_reserving k u s rank m (Ok reserved) =
     }
 after_reserving k u s rank m (Err fault) = record { answer = Err (OfRing fault); state = stopped u fault; disk = m }
 
--- a reservation, by what the ring refuses it for
+-- a reservation, by what the ring refuses it for; else the disk goes by the operations that succeed, and the rank is given only if
+-- all do
 abbrev pub reserved_by : Make → Numbering → Up → Meaning → ℕ → Rank → Option RingFault → LeftBy
 reserved_by make k u m s rank (Some fault) = record { answer = Err (OfRing fault); state = stopped u fault; disk = m }
 reserved_by make k u m s rank None =
@@ -120,7 +121,7 @@ run_after run done =
 abbrev pub print_of : Run → Done → List ℕ
 print_of run done = printed (shown_number (counted run.taken)) (columns_of done.answer)
 
--- the first line of a file, and what follows it
+-- what follows the first line of a file, by where that line ends
 abbrev pub rest_after : List ℕ → Option ℕ → List ℕ
 rest_after bytes None = []
 rest_after bytes (Some n) = drop n bytes

@@ -80,7 +80,7 @@ almost_full = record { reading = one_record; kept = one_record; supply = 100; be
 abbrev pub serial : AnyKind
 serial = Serial (record { size = 3; in_range = (lit≤ tt, lit≤ tt) })
 
--- a server that wakes on it
+-- a server that wakes on the almost full disk
 abbrev pub near_the_top : Run
 near_the_top =
     record { make = Faithful; view = runs serial (woken (numbering_of serial) almost_full) almost_full []; taken = 2 }

@@ -78,10 +78,6 @@ abbrev pub left_sectors : ℕ → Option Held → List (List ℕ) → List (List
 left_sectors tear None sectors = sectors
 left_sectors tear (Some h) sectors = slice_set sectors h.sector (torn tear h.old (at sectors h.sector))
 
--- the write that a torn disk holds back once bytes are written into sector i
-abbrev pub holding : ℕ → List ℕ → Held
-holding i memory = record { sector = i; old = at (sectors memory) i }
-
 -- the latest write is held back
 abbrev pub latest_write : Holding (Option Held)
 latest_write =

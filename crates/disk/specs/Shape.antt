@@ -1,4 +1,5 @@
--- The sectors of a memory have 32 bytes each: the proof of that law. A law's proof has to stand in specs; no contract cites it.
+-- The sectors of a memory have 32 bytes each, and there are 10 to 2,048 of them: the proofs of those laws. A law's proof has to
+-- stand in specs; no contract cites it.
 use Rattle.std.proofs.Common.{◌≡◌, ℕ, zero, suc, ◌*◌, ◌/◌, ◌≤◌, List, length, drop, sym, refl, ap, subst, arith}
 use Rattle.std.specs.List.{AllByRecursion}
 use Rattle.std.proofs.lemmas.List.{length-take, length-drop}

@@ -22,7 +22,7 @@ pub trait Disk {
     fn read(&self, sector: usize) -> Result<[u8; SECTOR_BYTES], DiskFault>
         ensures { result ≡ found (meaning self.now).reading sector };
 
-    // Replaces a sector. What a cut leaves of it is open until a flush.
+    // Replaces a sector. What is kept of it is open until a flush.
     fn write(&mut self, sector: usize, bytes: &[u8; SECTOR_BYTES]) -> Result<(), DiskFault>
         ensures answer { result ≡ answer_of Write (meaning self.old) sector }
         ensures effect { MatchResult result (λ _. Wrote (meaning self.old) sector bytes.now (meaning self.new)) (λ _. meaning self.new ≡ meaning self.old) };

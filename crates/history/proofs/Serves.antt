@@ -1,6 +1,6 @@
 -- One call more on a server, and a list of them.
-use Rattle.std.proofs.Common.{◌≡◌, ℕ, ◌+◌, ◌-◌, ◌<◌, List, [], ◌∷◌, ◌++◌, length, map, get_or, set, take, drop, Some, Result, sym, refl, ap, ◌∙◌, subst, append-nil, arith}
-use Rattle.std.proofs.lemmas.List.{take_more, length-set, length-drop, take-set, get_or-set_same, get_or-drop, drop-set-lt, drop-drop, map-append}
+use Rattle.std.proofs.Common.{◌≡◌, ℕ, ◌+◌, ◌-◌, ◌<◌, ◌≤◌, List, [], ◌∷◌, ◌++◌, length, map, get_or, set, take, drop, Some, Result, sym, refl, ap, ◌∙◌, subst, append-nil, arith}
+use Rattle.std.proofs.lemmas.List.{take_all, take_more, length-set, length-drop, take-set, get_or-set_same, get_or-drop, drop-set-lt, drop-drop, map-append}
 use Rattle.record.specs.declared.numbers.Identifier.{Identifier}
 use Rattle.record.specs.declared.numbers.Reading.{Reading}
 use Rattle.record.specs.declared.numbers.Sequence.{Sequence}
@@ -58,6 +58,14 @@ serving_step {k} {k'} {start} {past} {turns} {turns'} {state} {m} {call} {answer
           ∙ ap (λ (x : Answer). turns_of so_far.events ++ (record { call = call_of made.event; answer = Some x } ∷ [])) (sym made.answered);
       reached = made.reached;
     }
+
+-- once the loop is through, all turns have their calls
+pub all_calls :
+    (items turns : List Turn) (i : ℕ) → length items ≤ i → length turns ≤ i →
+    map (λ turn. turn.call) (take i items) ≡ map (λ turn. turn.call) (take i turns) →
+    map (λ turn. turn.call) items ≡ map (λ turn. turn.call) turns
+all_calls items turns i items_in turns_in e =
+    ap (map (λ (t : Turn). t.call)) (sym (take_all i items items_in)) ∙ e ∙ ap (map (λ (t : Turn). t.call)) (take_all i turns turns_in)
 
 -- the theorem says what all of them obey
 pub served :

@@ -34,11 +34,11 @@ pub record Made (k : Numbering) (start : Meaning) (past : List Event) (call : Ca
   pub answered : answer_of event ≡ answer
   pub reached : Reached k start (event ∷ past) state m
 
--- the turns whose calls a history has, with its answers
+-- the turn of an event: its call with its answer
 abbrev pub turn_of : Event → Turn
 turn_of event = record { call = call_of event; answer = Some (answer_of event) }
 
--- those of a history, the oldest first
+-- the turns of a history, the oldest first
 abbrev pub turns_of : List Event → List Turn
 turns_of [] = []
 turns_of (event ∷ past) = turns_of past ++ (turn_of event ∷ [])

@@ -1,5 +1,5 @@
 // Calls on a server, one after the other, and what none of them can make false.
-ghost use Rattle.std.specs.Prelude.{◌≡◌, List};
+ghost use Rattle.std.specs.Prelude.{◌≡◌, List, map};
 ghost use Rattle.disk.specs.Meaning.{Meaning};
 ghost use Rattle.server.specs.History.{Event};
 ghost use Rattle.server.specs.Promise.{Reached, EveryHistoryObeys};
@@ -24,7 +24,8 @@ pub enum Answer {
     Cut(Result<Sequence, ServerFault>),
 }
 
-// Makes one call: it extends a history by what the server's own call promises, and every such history obeys the laws.
+// Makes one call: it extends a history by what the server's own call promises, and every such history that began on a disk without
+// records obeys the laws.
 #[tactic(auto, using(crate::proofs::Obeys::every_history_obeys, crate::proofs::Serves::request_made, crate::proofs::Serves::cut_made))]
 pub fn make<D: Disk, K: Kind>(server: &mut Server<D, K>, call: Call) -> Answer
     ensures kind { server.new.kind ≡ server.old.kind }
@@ -48,6 +49,7 @@ pub struct Turn {
 // Makes the calls of the turns in their order, and writes each answer beside its call.
 pub fn serve<D: Disk, K: Kind>(server: &mut Server<D, K>, turns: &mut [Turn])
     ensures kind { server.new.kind ≡ server.old.kind }
+    ensures calls { map (λ turn. turn.call) turns.new ≡ map (λ turn. turn.call) turns.old }
     ensures promise { (start : Meaning) (past : List Event) → Reached (K.numbering server.old.kind) start past server.old.state (D.meaning server.old.disk) → Served (K.numbering server.old.kind) start past turns.old turns.new server.new.state (D.meaning server.new.disk) }
 {
     // A loop, since each call changes the server: of what a closure changes a chain tells nothing.

@@ -36,7 +36,7 @@ abbrev pub lawful : ℤ → Option Reading
 lawful (pos ms) = cond (nat_lt ms (2 ^ 41)) (Some (record { 0 = ms })) None
 lawful (negsuc _) = None
 
--- each second of the correction is 1000 milliseconds
+-- the reading set right by 1000 milliseconds a second; none where that is not lawful
 abbrev pub corrected_by : Correction → Reading → Option Reading
 corrected_by c raw = lawful (pos raw.0 +ℤ pos 1000 *ℤ seconds_of c)
 
@@ -44,7 +44,7 @@ corrected_by c raw = lawful (pos raw.0 +ℤ pos 1000 *ℤ seconds_of c)
 abbrev pub time_tag : TimeKind → ℕ
 time_tag _ = 2
 
--- a rank is milliseconds times 4096 and a step, of 41 and 12 bits
+-- the last rank: a rank is milliseconds times 4096 and a step, of 41 and 12 bits
 abbrev pub time_top : TimeKind → Rank
 time_top _ = record { 0 = 2 ^ 53 - 1 }
 

@@ -53,7 +53,7 @@ parts s =
 abbrev pub told_by : Parts → Option (ℕ × Record)
 told_by p = cond p.zeroed (Some (p.tag, p.«record»)) None
 
--- a sequence number names one of n sectors
+-- whether a number names sector i of n: number mod n is i; of 0 sectors it names none
 abbrev pub names : ℕ → ℕ → ℕ → Bool
 names n number i = nat_lt 0 n && number % n == i
 

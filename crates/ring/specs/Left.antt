@@ -32,14 +32,14 @@ abbrev pub end_of : Format → List (List ℕ) → ℕ → ℕ
 end_of f reading s = (live f reading s).end.0
 
 -- what may be left of sectors in which series s was reserving up to an end: they recover, and every end is as before, or of
--- series s the new one; records are only added
+-- series s the new one; the top record does not fall, and rises by at most 8
 pub record Left (f : Format) (s end : ℕ) (before after : List (List ℕ)) : Type 0 where
   pub recovers : Recovers f after
   pub ends : (t : ℕ) → (end_of f after t ≡ end_of f before t) ⊎ ((t ≡ s) × (end_of f after t ≡ end))
   pub tops : top f before ≤ top f after
   pub most : top f after ≤ top f before + 8
 
--- sectors in which series s has reserved up to an end: only its own end is new
+-- sectors in which series s has reserved up to an end: only its own end is new, and the top record has risen by 1 to 8
 pub record ReservedUpTo (f : Format) (s end : ℕ) (before after : List (List ℕ)) : Type 0 where
   pub recovers : Recovers f after
   pub own : end_of f after s ≡ end

@@ -5,7 +5,7 @@ ghost use Rattle.ring.specs.Ring.{newer, live_of, met, noted, next_known, carry_
 use record::{Content, Rank, Record, Sequence};
 
 // The live record of a series: its number and its end. Both are 0 where there is none: the rules give such a series the end 0, and
-// no record has the number 0, so that an Option would be told nowhere.
+// no record has the number 0, so an Option would tell nothing more.
 #[derive(Clone, Copy)]
 pub struct Live {
     pub number: Sequence,

@@ -47,7 +47,8 @@ fn scan<D: Disk>(disk: &D, format: Format) -> Result<Known, RingFault>
     Ok(known)
 }
 
-// The most writes and flushes of one reservation: seven carries and the reservation itself, two for each.
+// The most writes and flushes of one reservation: seven carries and the reservation itself, two for each. Its clauses are the
+// laws of a reservation.
 pub fn most_operations() -> u64
     ensures value { result ≡ 16 }
     ensures laws { ReservationLaws }

@@ -23,11 +23,11 @@ pub struct Unconfirmed {
     pub(crate) fault: DiskFault,
 }
 
-// A reservation that is flushed: the ranks of the series below the end are reserved.
+// A reservation that is flushed: the ranks of the series below the end are reserved. Only `confirm` makes one.
 #[derive(Clone, Copy, PartialEq, Eq, Debug)]
 pub struct Reserved {
-    pub series: u8,
-    pub end: Rank,
+    pub(crate) series: u8,
+    pub(crate) end: Rank,
 }
 
 impl Written {
@@ -66,6 +66,13 @@ impl Unconfirmed {
 }
 
 impl Reserved {
+    // The series that has reserved.
+    pub fn series(self) -> u8
+        ensures { result ≡ self.series }
+    {
+        self.series
+    }
+
     // Draws a rank: none that is not below the end.
     pub fn draw(self, rank: Rank) -> Option<Rank>
         ensures { result ≡ drawn self rank }

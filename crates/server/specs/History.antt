@@ -148,14 +148,13 @@ abbrev pub left_standing : Numbering → Meaning → ℕ → ℕ → Option Mean
 left_standing k start s end None = false
 left_standing k start s end (Some left) = end_in k start left s == end
 
--- a request's reservation: none, flushed, or not flushed
+-- whether a request's reservation stands: none does not, a flushed one does, any other as the next cut left it
 abbrev pub stood : Numbering → Meaning → ℕ → ℕ → ℕ → Option Meaning → List Step → Bool
 stood k start s end supply next_cut [] = false
 stood k start s end supply next_cut (step ∷ steps) =
     cond (too_little supply (step ∷ steps)) (left_standing k start s end next_cut) true
 
--- how many reservations of a series were flushed, or left standing by the next cut; what the next cut after these events
--- left is given, where there was one
+-- how many reservations of a series stand; next_cut is what the first cut after these events left, if there was one
 abbrev pub standing : Numbering → Meaning → ℕ → Option Meaning → List Event → ℕ
 standing k start s next_cut [] = 0
 standing k start s next_cut (cut tear supply answer after ∷ past) = standing k start s (Some after) past
@@ -165,8 +164,7 @@ standing k start s next_cut (request t reading answer after ∷ past) =
     (standing k start s next_cut past + 1)
     (standing k start s next_cut past)
 
--- the reservation that covers a request's rank is the request's own where it makes one, and else the latest: that one is not
--- before it
+-- 1 where a request makes no reservation of its own, else 0: then the latest one covers its rank, and is not counted as before it
 abbrev pub one_if_none : List Step → ℕ
 one_if_none [] = 1
 one_if_none (step ∷ steps) = 0

@@ -29,7 +29,7 @@ abbrev pub awake : Result Ring RingFault → State
 awake (Ok r) = Awake (record { ring = r; nexts = map (known_end r.known) (range_with_len 0 8) })
 awake (Err fault) = Down fault
 
--- the next rank of a series, and the server with another one
+-- the next rank of a series, 0 past the list
 abbrev pub next_in : List Rank → ℕ → Rank
 next_in nexts s = slice_index_or nexts s (record { 0 = 0 })
 

@@ -13,8 +13,8 @@ pub struct Up {
     pub(crate) nexts: [Rank; 8],
 }
 
-// Up, or down with the fault that brought the server down. It has the shape of a Result and names of its own, as the
-// project asks: a server that is down is no failed answer.
+// Up, or down with the fault that brought the server down. It has the shape of a Result and names of its own: a server that is
+// down is no failed answer.
 #[derive(Clone, Copy)]
 pub enum State {
     Up(Up),

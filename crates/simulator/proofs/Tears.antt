@@ -1,7 +1,7 @@
 -- The torn disk by its meaning: what it keeps, and what a cut leaves.
 use Rattle.std.proofs.Common.{◌≡◌, ℕ, zero, suc, ◌-◌, cond, List, [], ◌∷◌, get_or, set, is_ok, IfOk, Some, None, Ok, Err, Option, Result, sym, refl, ap, ◌∙◌, arith, MatchResult}
 use Rattle.std.proofs.lemmas.List.{set-set, set-get_or}
-use Rattle.disk.specs.Devices.{torn, before, left_sectors, torn_disk, holding}
+use Rattle.disk.specs.Devices.{torn, before, left_sectors, torn_disk}
 use Rattle.disk.specs.Meaning.{Wrote, Cut, at}
 use Rattle.disk.specs.Tearing.{torn_equal}
 use Rattle.disk.proofs.Meanings.{same_parts}
@@ -11,6 +11,10 @@ use Rattle.disk.specs.declared.memory.MemoryDisk.{MemoryDisk}
 use Rattle.disk.specs.declared.torn.Held.{Held}
 use Rattle.simulator.specs.Devices.{torn_apart, written, cut_by}
 use Rattle.simulator.specs.declared.device.Make.TheVariants.{Torn}
+
+-- the write that a torn disk holds back once bytes are written into sector i
+abbrev holding : ℕ → List ℕ → Held
+holding i memory = record { sector = i; old = at (sectors memory) i }
 
 abbrev TornDisk : Type 0
 TornDisk = MemoryDisk (Option Held)

@@ -64,12 +64,12 @@ abbrev pub with_lease : View → Result Lease SettingFault → Done
 with_lease v (Err fault) = denied (Setting fault) v
 with_lease v (Ok lease) = set_up (leased lease v)
 
--- the box and the correction byte of the time kind; the byte is tested first
+-- the time kind, or the fault of its box
 abbrev pub with_time : View → Result TimeKind SettingFault → Done
 with_time v (Err fault) = denied (Setting fault) v
 with_time v (Ok k) = set_up (started (kind.Time k) v)
 
--- the same by the correction byte
+-- the correction byte is tested first, then the box
 abbrev pub with_correction : View → Lease → ℕ → Result Correction SettingFault → Done
 with_correction v lease box (Err fault) = denied (Setting fault) v
 with_correction v lease box (Ok correction) = with_time v (time_kind_of lease box correction)

@@ -58,7 +58,8 @@ impl<'a> Simulator<'a> {
         }
     }
 
-    // Takes a request line: writes the first 34 bytes of the print line, and tells what the line was answered with.
+    // Takes a request line: writes the first 34 bytes of the print line, and tells what the line was answered with. With a print
+    // line of fewer bytes it is denied, and nothing changes.
     pub fn take(&mut self, line: &[u8], print: &mut [u8]) -> Result<Answer, Denial>
         ensures takes { Takes (view self.old.stage) self.old.taken line.now print.old result (view self.new.stage) self.new.taken print.new }
         ensures memory { stage_bytes self.new.stage ≡ memory_of (view self.new.stage) }

@@ -38,7 +38,7 @@ held w false = w.with_write w.nothing 3 (encoded 1 older)
 abbrev pub left_on : {H : Type 0} → Holding H → Bool → ℕ → Content
 left_on w flushed tear = content format 3 (at (w.left_sectors tear (held w flushed) rewritten) 3)
 
--- the newer record is kept before the cut: it was flushed, or no write is held back
+-- what is kept of the sector before the cut is the newer record
 abbrev pub KeepsNewer : {H : Type 0} → Holding H → Bool → Type 0
 KeepsNewer w flushed = at (w.before (held w flushed) rewritten) 3 ≡ encoded 1 newer
 

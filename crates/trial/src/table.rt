@@ -11,7 +11,7 @@ use record::Content;
 use std::alloc::{AllocError, Global};
 use std::fmt;
 
-// The tears that differ: from none of the 32 bytes of the write to all of them have reached the disk.
+// The tears that differ: 0 to 32 of the write's 32 bytes have reached the disk.
 const TEARS: u64 = 33;
 
 // The disk of a trial.

@@ -2,7 +2,7 @@ use crate::*;
 use std::test::Fail;
 
 // The two records differ in bytes 4, 12 and 13 and in their checksums: up to 4 bytes of the write change nothing, and
-// no more than all 32 make the newer record.
+// nothing less than all 32 makes the newer record.
 #[test]
 fn counts_of_a_torn_write(rt: HostRuntime) -> Result<(), Fail> {
     let before_flush = trials(rt.alloc(), Device::Torn, false)?;

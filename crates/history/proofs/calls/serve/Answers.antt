@@ -3,7 +3,7 @@ use Rattle.std.proofs.Common.{◌≡◌, ◌<◌, List, length, map, take, refl,
 use Rattle.std.proofs.lemmas.List.{take_all}
 use Rattle.history.specs.declared.calls.Call.TheVariants.{Give}
 use Rattle.history.specs.declared.calls.Turn.{Turn}
-use Rattle.history.proofs.Serves.{Serving, serving_step, served, more_taken, rest_dropped, calls_kept}
+use Rattle.history.proofs.Serves.{Serving, serving_step, served, more_taken, rest_dropped, calls_kept, all_calls}
 use Rattle.history.proofs.calls.serve.Goals as goal
 
 abbrev no_turn : Turn
@@ -27,16 +27,17 @@ loop-turn-preserved g c =
           (before.serving start past reached);
     }
 
+pub returns-clause-calls : goal.returns-clause-calls
+returns-clause-calls g c =
+    all_calls c.loop-turn.turn-items c.args.turns.now c.loop-turn.turn-index (omega arith) (omega arith) c.loop-turn.invariant.calls
+
 pub returns-clause-promise : goal.returns-clause-promise
 returns-clause-promise g c start past reached =
     let items = c.loop-turn.turn-items in
-    let turns = c.args.turns.now in
     let i = c.loop-turn.turn-index in
     let all : take i items ≡ items = take_all i items (omega arith) in
-    let every : take i turns ≡ turns = take_all i turns (omega arith) in
     let before = c.loop-turn.invariant in
-    served (g.met.K.Kind.lawful c.args.server.now.kind)
-    (ap (map (λ (t : Turn). t.call)) (sym all) ∙ before.calls ∙ ap (map (λ (t : Turn). t.call)) every)
+    served (g.met.K.Kind.lawful c.args.server.now.kind) (returns-clause-calls g c)
     (subst
     (λ (xs : List Turn). Serving (g.K.Kind.numbering c.args.server.now.kind) start past xs c.loop-turn.server.state (g.D.Disk.meaning c.loop-turn.server.disk))
     all (before.serving start past reached))
