@@ -1,5 +1,5 @@
 -- A turn makes one call more, and the theorem says what all of them obey.
-use Rattle.std.proofs.Common.{◌≡◌, ◌<◌, List, length, map, take, refl, ap, ◌∙◌, subst, sym, None, Some, arith, get_or}
+use Rattle.std.proofs.Common.{◌≡◌, ◌<◌, List, length, take, refl, ap, ◌∙◌, subst, None, Some, arith, get_or}
 use Rattle.std.proofs.lemmas.List.{take_all}
 use Rattle.history.specs.declared.calls.Call.TheVariants.{Give}
 use Rattle.history.specs.declared.calls.Turn.{Turn}
