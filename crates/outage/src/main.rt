@@ -1,6 +1,10 @@
 // A short history of a server on the torn disk: requests, a flush that goes dark, and cuts that tear a reservation or leave it.
 #![tactic(auto)]
 
+ghost use Rattle.std.specs.Prelude.{◌≡◌, Some, None};
+ghost use Rattle.history.specs.declared.calls.Call.TheVariants.{Give, Cut};
+ghost use Rattle.outage.specs.Texts.{turn_text, denied_text};
+
 use disk::TornDisk;
 use history::{Answer, Call, Turn, run};
 use kind::SerialKind;
@@ -15,7 +19,9 @@ const BLOCK_SIZE: u64 = 3;
 const SUPPLY: u64 = 5;
 
 // A request of a series, still to be made; the serial kind has the same floor at every reading.
-fn give(series: u8) -> Turn {
+fn give(series: u8) -> Turn
+    ensures { result ≡ record { call = Give series (record { 0 = 0 }); answer = None } }
+{
     let reading = Reading(0);
     Turn {
         call: Call::Give { series, reading },
@@ -24,7 +30,9 @@ fn give(series: u8) -> Turn {
 }
 
 // A power cut, still to be made.
-fn cut(tear: u64, supply: u64) -> Turn {
+fn cut(tear: u64, supply: u64) -> Turn
+    ensures { result ≡ record { call = Cut tear supply; answer = None } }
+{
     Turn {
         call: Call::Cut { tear, supply },
         answer: None,
@@ -36,6 +44,8 @@ fn cut(tear: u64, supply: u64) -> Turn {
 struct Told(Turn);
 
 impl fmt::Display for Told {
+    ghost output = { λ told. Some (turn_text told.0) };
+
     fn fmt<W: fmt::Write>(&self, f: &mut fmt::Formatter<W>) -> fmt::Result {
         match self.0.call {
             Call::Give { series, reading: _ } => write!(f, "request of series {series}     | ")?,
@@ -57,6 +67,8 @@ impl fmt::Display for Told {
 struct Denied(ServerFault);
 
 impl fmt::Display for Denied {
+    ghost output = { λ denied. Some (denied_text denied.0) };
+
     fn fmt<W: fmt::Write>(&self, f: &mut fmt::Formatter<W>) -> fmt::Result {
         write!(f, "denied with {}", self.0.number())?;
         if let ServerFault::Ring(_) = self.0 {
