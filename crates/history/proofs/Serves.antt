@@ -12,7 +12,7 @@ use Rattle.server.specs.Promise.{Obeys, Reached, begun, gave, was_cut}
 use Rattle.server.specs.Rules.{Gave, WasCut, woken}
 use Rattle.server.specs.declared.fault.ServerFault.{ServerFault}
 use Rattle.server.specs.declared.state.State.{State}
-use Rattle.history.specs.Made.{call_of, turns_of, Made, Served, Ran}
+use Rattle.history.specs.Made.{call_of, turns_of, Takes, TakesAll, Made, Served, Ran}
 use Rattle.history.specs.declared.calls.Answer.{Answer}
 use Rattle.history.specs.declared.calls.Answer.TheVariants.{Give as AnswerGive, Cut as AnswerCut}
 use Rattle.history.specs.declared.calls.Call.{Call}
@@ -20,34 +20,38 @@ use Rattle.history.specs.declared.calls.Call.TheVariants.{Give, Cut}
 use Rattle.history.specs.declared.calls.Turn.{Turn}
 use Rattle.history.proofs.Obeys.{every_history_obeys}
 
-module _ (k : Numbering) (start : Meaning) (past : List Event) (state after : State) (m m' : Meaning) (reached : Reached k start past state m) (call : Call) where
+-- one call more, from one disk to another
+module _ {D : Type 0} (meaning : D → Meaning) (after_cut : D → ℕ → ℕ → Meaning) (disk disk' : D) (k : Numbering) (start : Meaning) (past : List Event) (state after : State) (reached : Reached k start past state (meaning disk)) (call : Call) where
   pub request_made :
-      (s : ℕ) (reading : Reading) (answer : Result Identifier ServerFault) → call ≡ Give s reading → Gave k state m s reading answer after m' →
-      Made k start past call (AnswerGive answer) after m'
+      (s : ℕ) (reading : Reading) (answer : Result Identifier ServerFault) → call ≡ Give s reading → Gave k state (meaning disk) s reading answer after (meaning disk') →
+      Made k start past call (AnswerGive answer) (Takes meaning after_cut disk disk') after (meaning disk')
   request_made s reading answer is did =
-      record { event = request s reading answer m'; asked = sym is; answered = refl; reached = gave reached did }
+      record { event = request s reading answer (meaning disk'); asked = sym is; answered = refl; goes = (refl, tt); reached = gave reached did }
 
   pub cut_made :
-      (tear supply : ℕ) (answer : Result Sequence ServerFault) → call ≡ Cut tear supply → WasCut k m supply answer after m' →
-      Made k start past call (AnswerCut answer) after m'
-  cut_made tear supply answer is did =
-      record { event = cut tear supply answer m'; asked = sym is; answered = refl; reached = was_cut reached did }
+      (tear supply : ℕ) (answer : Result Sequence ServerFault) → call ≡ Cut tear supply → WasCut k (meaning disk) supply answer after (meaning disk') →
+      meaning disk' ≡ after_cut disk tear supply →
+      Made k start past call (AnswerCut answer) (Takes meaning after_cut disk disk') after (meaning disk')
+  cut_made tear supply answer is did exact =
+      record { event = cut tear supply answer (meaning disk'); asked = sym is; answered = refl; goes = (refl, exact); reached = was_cut reached did }
 
 -- turns under way: those so far are answered
-pub record Serving (k : Numbering) (start : Meaning) (past : List Event) (turns : List Turn) (state : State) (m : Meaning) : Type 0 where
+pub record Serving (k : Numbering) (start : Meaning) (past : List Event) (turns : List Turn) (takes : List Event → Type 0) (state : State) (m : Meaning) : Type 0 where
   pub events : List Event
   pub answered : turns ≡ turns_of events
+  pub goes : takes events
   pub reached : Reached k start (events ++ past) state m
 
 -- one more, by what a call extends, of a kind that stayed
 pub serving_step :
-    {k k' : Numbering} {start : Meaning} {past : List Event} {turns turns' : List Turn} {state : State} {m : Meaning} {call : Call} {answer : Answer} {after : State} {m' : Meaning} →
+    {k k' : Numbering} {start : Meaning} {past : List Event} {turns turns' : List Turn} {takes takes' : List Event → Type 0} {one : Event → Type 0} {state : State} {m : Meaning} {call : Call} {answer : Answer} {after : State} {m' : Meaning} →
     k' ≡ k → turns' ≡ turns ++ (record { call = call; answer = Some answer } ∷ []) →
-    ((begin : Meaning) (h : List Event) → Reached k' begin h state m → Made k' begin h call answer after m') →
-    Serving k start past turns state m → Serving k start past turns' after m'
-serving_step {k} {k'} {start} {past} {turns} {turns'} {state} {m} {call} {answer} {after} {m'} same more extends so_far =
-    let extends_k : (begin : Meaning) (h : List Event) → Reached k begin h state m → Made k begin h call answer after m' =
-    subst (λ (x : Numbering). (begin : Meaning) (h : List Event) → Reached x begin h state m → Made x begin h call answer after m') same extends in
+    ((event : Event) (events : List Event) → takes events → one event → takes' (event ∷ events)) →
+    ((begin : Meaning) (h : List Event) → Reached k' begin h state m → Made k' begin h call answer one after m') →
+    Serving k start past turns takes state m → Serving k start past turns' takes' after m'
+serving_step {k} {k'} {start} {past} {turns} {turns'} {takes} {takes'} {one} {state} {m} {call} {answer} {after} {m'} same more joins extends so_far =
+    let extends_k : (begin : Meaning) (h : List Event) → Reached k begin h state m → Made k begin h call answer one after m' =
+    subst (λ (x : Numbering). (begin : Meaning) (h : List Event) → Reached x begin h state m → Made x begin h call answer one after m') same extends in
     let made = extends_k start (so_far.events ++ past) so_far.reached in
     record {
       events = made.event ∷ so_far.events;
@@ -56,8 +60,16 @@ serving_step {k} {k'} {start} {past} {turns} {turns'} {state} {m} {call} {answer
           ∙ ap (λ (x : List Turn). x ++ (record { call = call; answer = Some answer } ∷ [])) so_far.answered
           ∙ ap (λ (x : Call). turns_of so_far.events ++ (record { call = x; answer = Some answer } ∷ [])) (sym made.asked)
           ∙ ap (λ (x : Answer). turns_of so_far.events ++ (record { call = call_of made.event; answer = Some x } ∷ [])) (sym made.answered);
+      goes = joins made.event so_far.events so_far.goes made.goes;
       reached = made.reached;
     }
+
+-- one event more takes the disk further
+module _ {D : Type 0} (meaning : D → Meaning) (after_cut : D → ℕ → ℕ → Meaning) (disk between disk' : D) where
+  pub taken_further :
+      (event : Event) (events : List Event) → TakesAll meaning after_cut disk between events → Takes meaning after_cut between disk' event →
+      TakesAll meaning after_cut disk disk' (event ∷ events)
+  taken_further event events all one = (between, all, one)
 
 -- once the loop is through, all turns have their calls
 pub all_calls :
@@ -69,14 +81,15 @@ all_calls items turns i items_in turns_in e =
 
 -- the theorem says what all of them obey
 pub served :
-    {k : Numbering} {start : Meaning} {past : List Event} {turns made : List Turn} {state : State} {m : Meaning} → LawfulKind k →
-    map (λ turn. turn.call) made ≡ map (λ turn. turn.call) turns → Serving k start past made state m →
-    Served k start past turns made state m
-served {k} {start} {past} {turns} {made} {state} {m} lawful asked so_far =
+    {k : Numbering} {start : Meaning} {past : List Event} {turns made : List Turn} {takes : List Event → Type 0} {state : State} {m : Meaning} → LawfulKind k →
+    map (λ turn. turn.call) made ≡ map (λ turn. turn.call) turns → Serving k start past made takes state m →
+    Served k start past turns made takes state m
+served {k} {start} {past} {turns} {made} {takes} {state} {m} lawful asked so_far =
     record {
       events = so_far.events;
       asked = asked;
       answered = so_far.answered;
+      goes = so_far.goes;
       reached = so_far.reached;
       obeys = λ without. every_history_obeys k start (so_far.events ++ past) state m lawful without so_far.reached;
     }
@@ -88,18 +101,20 @@ begun-at k start state m is same =
 
 -- what a list of calls on it promises
 pub ran :
-    {k k' : Numbering} {start : Meaning} {turns made : List Turn} {state after : State} {m m' : Meaning} → IsSize (count start) → k' ≡ k →
-    ((begin : Meaning) (h : List Event) → Reached k' begin h state m → Served k' begin h turns made after m') →
-    Reached k start [] state m → Ran k start turns made after m'
-ran {k} {k'} {start} {turns} {made} {state} {after} {m} {m'} sized same promise reached =
-    let promise_k : (begin : Meaning) (h : List Event) → Reached k begin h state m → Served k begin h turns made after m' =
-    subst (λ (x : Numbering). (begin : Meaning) (h : List Event) → Reached x begin h state m → Served x begin h turns made after m') same promise in
+    {k k' : Numbering} {start : Meaning} {turns made : List Turn} {takes takes' : List Event → Type 0} {state after : State} {m m' : Meaning} → IsSize (count start) → k' ≡ k →
+    ((events : List Event) → takes events → takes' events) →
+    ((begin : Meaning) (h : List Event) → Reached k' begin h state m → Served k' begin h turns made takes after m') →
+    Reached k start [] state m → Ran k start turns made takes' after m'
+ran {k} {k'} {start} {turns} {made} {takes} {takes'} {state} {after} {m} {m'} sized same moved promise reached =
+    let promise_k : (begin : Meaning) (h : List Event) → Reached k begin h state m → Served k begin h turns made takes after m' =
+    subst (λ (x : Numbering). (begin : Meaning) (h : List Event) → Reached x begin h state m → Served x begin h turns made takes after m') same promise in
     let all = promise_k start [] reached in
     let whole : all.events ++ [] ≡ all.events = append-nil all.events in
     record {
       history = all.events;
       asked = all.asked;
       answered = all.answered;
+      goes = moved all.events all.goes;
       reached = subst (λ (x : List Event). Reached k start x after m') whole all.reached;
       obeys = λ unwritten.
           subst (Obeys k start) whole

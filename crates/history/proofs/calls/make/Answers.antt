@@ -1,7 +1,8 @@
 -- A cut extends a history as the server's own call promises.
-use Rattle.std.proofs.Common.{rules}
 use Rattle.history.proofs.Serves.{cut_made}
 use Rattle.history.proofs.calls.make.Goals as goal
 
 pub returns-in-Cut-clause-extends : goal.returns-in-Cut-clause-extends
-returns-in-Cut-clause-extends g c start past reached = search (rules, cut_made)
+returns-in-Cut-clause-extends g c start past reached =
+    cut_made g.D.Disk.meaning g.D.Disk.after_cut c.args.server.now.disk c.cut.new.self.disk _ start past _ _ reached _ _ _ _ c.in-Cut.is
+    c.cut.ensures.rules c.cut.ensures.exact

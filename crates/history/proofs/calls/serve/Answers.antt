@@ -1,13 +1,23 @@
 -- A turn makes one call more, and the theorem says what all of them obey.
-use Rattle.std.proofs.Common.{◌≡◌, ◌<◌, List, length, take, refl, ap, ◌∙◌, subst, None, Some, arith, get_or}
+use Rattle.std.proofs.Common.{◌≡◌, ◌<◌, List, [], length, take, refl, ap, ◌∙◌, subst, None, Some, arith, get_or}
 use Rattle.std.proofs.lemmas.List.{take_all}
 use Rattle.history.specs.declared.calls.Call.TheVariants.{Give}
+use Rattle.history.specs.Made.{TakesAll}
 use Rattle.history.specs.declared.calls.Turn.{Turn}
-use Rattle.history.proofs.Serves.{Serving, serving_step, served, more_taken, rest_dropped, calls_kept, all_calls}
+use Rattle.history.proofs.Serves.{Serving, serving_step, served, more_taken, rest_dropped, calls_kept, all_calls, taken_further}
 use Rattle.history.proofs.calls.serve.Goals as goal
 
 abbrev no_turn : Turn
 no_turn = record { call = Give 0 (record { 0 = 0 }); answer = None }
+
+pub loop-turn-init : goal.loop-turn-init
+loop-turn-init g c =
+    record {
+      kind = refl;
+      rest = refl;
+      calls = refl;
+      serving = λ start past reached. record { events = []; answered = refl; goes = refl; reached = reached };
+    }
 
 pub loop-turn-preserved : goal.loop-turn-preserved
 loop-turn-preserved g c =
@@ -23,7 +33,8 @@ loop-turn-preserved g c =
       calls = calls_kept items turns i no_turn turn taken before.rest refl before.calls;
       serving =
           λ start past reached.
-          serving_step (ap g.K.Kind.numbering before.kind) (more_taken items turns i no_turn turn taken before.rest refl) c.make.ensures.extends
+          serving_step (ap g.K.Kind.numbering before.kind) (more_taken items turns i no_turn turn taken before.rest refl)
+          (taken_further g.D.Disk.meaning g.D.Disk.after_cut c.args.server.now.disk c.loop-turn.server.disk c.make.new.server.disk) c.make.ensures.extends
           (before.serving start past reached);
     }
 
@@ -39,5 +50,5 @@ returns-clause-promise g c start past reached =
     let before = c.loop-turn.invariant in
     served (g.met.K.Kind.lawful c.args.server.now.kind) (returns-clause-calls g c)
     (subst
-    (λ (xs : List Turn). Serving (g.K.Kind.numbering c.args.server.now.kind) start past xs c.loop-turn.server.state (g.D.Disk.meaning c.loop-turn.server.disk))
+    (λ (xs : List Turn). Serving (g.K.Kind.numbering c.args.server.now.kind) start past xs (TakesAll g.D.Disk.meaning g.D.Disk.after_cut c.args.server.now.disk c.loop-turn.server.disk) c.loop-turn.server.state (g.D.Disk.meaning c.loop-turn.server.disk))
     all (before.serving start past reached))

@@ -3,6 +3,7 @@ use Rattle.std.proofs.Common.{◌≡◌, List, map, take, drop}
 use Rattle.disk.specs.Meaning.{Meaning}
 use Rattle.server.specs.History.{Event}
 use Rattle.server.specs.Promise.{Reached}
+use Rattle.history.specs.Made.{TakesAll}
 use Rattle.history.proofs.Serves.{Serving}
 use Rattle.history.proofs.calls.serve.Given as goal
 
@@ -15,5 +16,5 @@ invariant-loop-turn g l =
       serving :
           (start : Meaning) (past : List Event) →
           Reached (g.K.Kind.numbering l.fn.server.kind) start past l.fn.server.state (g.D.Disk.meaning l.fn.server.disk) →
-          Serving (g.K.Kind.numbering l.fn.server.kind) start past (take l.turn-index l.turn-items) l.server.state (g.D.Disk.meaning l.server.disk);
+          Serving (g.K.Kind.numbering l.fn.server.kind) start past (take l.turn-index l.turn-items) (TakesAll g.D.Disk.meaning g.D.Disk.after_cut l.fn.server.disk l.server.disk) l.server.state (g.D.Disk.meaning l.server.disk);
     }
