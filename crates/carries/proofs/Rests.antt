@@ -91,9 +91,9 @@ module _ (start : Meaning) (without : WithoutRecords start) where
       subst (λ (n : ℕ). LawfulReservation (sized n) 7 3 m) r.recovers.sized.count lawful
 
 pub filled_then_stopped :
-    (start filled end : Meaning) (supply : ℕ) (answer : Result Reserved RingFault) (found : Result Ring RingFault) →
-    Filled (format start) start 9 filled → Stops filled supply answer found end → FilledAndStopped start supply answer found end
-filled_then_stopped start filled end supply answer found fills stops = record { filled = filled; fills = fills; stops = stops }
+    (cuts : ℕ → ℕ → Meaning → Meaning → Type 0) (start filled end : Meaning) (supply tear : ℕ) (answer : Result Reserved RingFault) (found : Result Ring RingFault) →
+    Filled (format start) start 9 filled → Stops cuts filled supply tear answer found end → FilledAndStopped cuts start supply tear answer found end
+filled_then_stopped cuts start filled end supply tear answer found fills stops = record { filled = filled; fills = fills; stops = stops }
 
 -- the answer of a stop that follows
 pub both : {T E : Type 0} (x : Result T E) (P Q : T → Type 0) → IsOkAnd x P → ((y : T) → P y → Q y) → IfOk x Q

@@ -62,17 +62,19 @@ module _ (start woken : Meaning) (supply : ℕ) (lawful : LawfulReservation (for
     abbrev sized : ℕ → Format
     sized n = record { tag = 1; top = record { 0 = 999999998 }; sectors = n }
 
-    stops : Stops start supply answer found end
-    stops =
+    stops : (cuts : ℕ → ℕ → Meaning → Meaning → Type 0) (tear : ℕ) → cuts 0 supply start woken → cuts tear 1000 after end → Stops cuts start supply tear answer found end
+    stops cuts tear first last =
         record {
           woken = woken;
           begins = begins;
+          first = first;
           answers = rw (same, begins.supplied) at ended.answers;
           after = after;
           goes =
               subst (λ (n : ℕ). Went woken (performed f (plan f 7 7 3 start.reading) n) after) begins.supplied
               (subst (λ (x : List (List ℕ)). Went woken (performed f (plan f 7 7 3 x) woken.supply) after) same ended.goes);
           ends = ends;
+          last = last;
           finds = finds ∙ ap (λ n. recovered (sized n) end.reading) (sym left.recovers.sized.count);
           leaves = rw same at left;
         }
@@ -82,8 +84,9 @@ module _ (start woken : Meaning) (supply : ℕ) (lawful : LawfulReservation (for
       (r r' : Ring) (after end : Meaning) (answer : Result Reserved RingFault) (found : Result Ring RingFault) →
       Ok r ≡ recovered (format woken) woken.reading →
       (Agrees r woken → refusal r.format r.known.top.0 7 (record { 0 = 3 }) ≡ None → Ended r.format 7 (record { 0 = 3 }) woken answer r' after) →
-      Cut after 1000 end → found ≡ recovered (format end) end.reading → Stops start supply answer found end
-  stopped r r' after end answer found told reserves ends finds =
+      Cut after 1000 end → found ≡ recovered (format end) end.reading →
+      (cuts : ℕ → ℕ → Meaning → Meaning → Type 0) (tear : ℕ) → cuts 0 supply start woken → cuts tear 1000 after end → Stops cuts start supply tear answer found end
+  stopped r r' after end answer found told reserves ends finds cuts tear first last =
       let is : r ≡ ring = grind (arith, told ∙ wakes) in
       let ended = rw is at reserves in
-      stops r' after end answer found (ended agrees allowed) ends finds
+      stops r' after end answer found (ended agrees allowed) ends finds cuts tear first last

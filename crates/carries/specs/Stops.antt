@@ -31,21 +31,27 @@ Filled f start (suc n) m = (before : Meaning) × Filled f start n before × Made
 abbrev pub third : Reserved
 third = record { series = 7; end = record { 0 = 3 } }
 
+-- a cut of a disk of one meaning, with a tear and a supply, leaves the other
+abbrev pub CutBy : {D : Type 0} → (D → Meaning) → (D → ℕ → ℕ → Meaning) → ℕ → ℕ → Meaning → Meaning → Type 0
+CutBy {D} meaning after_cut tear supply m end = (disk : D) × (meaning disk ≡ m) × (end ≡ after_cut disk tear supply)
+
 -- the current fails and comes back with so much supply; the reservation answers what its plan answers with that supply, and
--- makes the writes and flushes that it allows; then a cut comes, and recovery answers as the sectors read, which is a ring with the
+-- makes the writes and flushes that it allows; then a cut with the tear comes, and recovery answers as the sectors read, which is a ring with the
 -- old ends or the new one
-pub record Stops (start : Meaning) (supply : ℕ) (answer : Result Reserved RingFault) (found : Result Ring RingFault) (end : Meaning) : Type 0 where
+pub record Stops (cuts : ℕ → ℕ → Meaning → Meaning → Type 0) (start : Meaning) (supply tear : ℕ) (answer : Result Reserved RingFault) (found : Result Ring RingFault) (end : Meaning) : Type 0 where
   pub woken : Meaning
   pub begins : Cut start supply woken
+  pub first : cuts 0 supply start woken
   pub answers : outcome third (plan (format start) 7 7 3 start.reading) supply ≡ answer
   pub after : Meaning
   pub goes : Went woken (performed (format start) (plan (format start) 7 7 3 start.reading) supply) after
   pub ends : Cut after 1000 end
+  pub last : cuts tear 1000 after end
   pub finds : found ≡ recovered (format start) end.reading
   pub leaves : Left (format start) 7 3 start.reading end.reading
 
 -- a disk was filled, and then stopped
-pub record FilledAndStopped (start : Meaning) (supply : ℕ) (answer : Result Reserved RingFault) (found : Result Ring RingFault) (end : Meaning) : Type 0 where
+pub record FilledAndStopped (cuts : ℕ → ℕ → Meaning → Meaning → Type 0) (start : Meaning) (supply tear : ℕ) (answer : Result Reserved RingFault) (found : Result Ring RingFault) (end : Meaning) : Type 0 where
   pub filled : Meaning
   pub fills : Filled (format start) start 9 filled
-  pub stops : Stops filled supply answer found end
+  pub stops : Stops cuts filled supply tear answer found end

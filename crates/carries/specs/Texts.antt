@@ -1,5 +1,6 @@
 -- What is printed of a reservation's answer, and of what recovery finds.
-use Rattle.std.specs.Prelude.{ℕ, cond, List, ◌++◌, codes, decimal, flat_map, nat_lt, Ok, Err, Result}
+use Rattle.std.specs.Prelude.{ℕ, ◌-◌, ◌^◌, List, ◌++◌, codes, flat_map, Ok, Err, Result}
+use Rattle.std.specs.Fmt.{decimal, format_spec, styled_decimal}
 use Rattle.record.specs.declared.numbers.Rank.{Rank}
 use Rattle.disk.specs.Meaning.{name_of}
 use Rattle.ring.specs.Faults.{number_of}
@@ -41,9 +42,9 @@ answer_text (Err fault) = stopped_text fault
 abbrev pub end_text : Rank → List ℕ
 end_text end = codes " " ++ decimal end.0
 
--- a number in two columns at least: a space before one that has a single digit
+-- a number at the right end of two columns
 abbrev pub in_two_columns : ℕ → List ℕ
-in_two_columns number = cond (nat_lt number 10) (codes " " ++ decimal number) (decimal number)
+in_two_columns number = styled_decimal (format_spec 32 3 0 2 (2 ^ 64 - 1)) number
 
 -- what recovery finds: the top record and the ends of the eight series in their order, or the denial
 abbrev pub recovered_text : Result Ring RingFault → List ℕ

@@ -5,11 +5,11 @@
 ghost use Rattle.std.specs.Prelude.{Some, IfOk, IsOkAnd, flat_map};
 ghost use Rattle.ring.specs.Left.{LawfulReservation, WithoutRecords};
 ghost use Rattle.ring.specs.Ring.{Agrees};
-ghost use Rattle.carries.specs.Texts.{work_text, answer_text, end_text, in_two_columns, recovered_text};
-ghost use Rattle.carries.specs.Stops.{format, Filled, Stops, FilledAndStopped};
+ghost use Rattle.carries.specs.Texts.{work_text, answer_text, end_text, recovered_text};
+ghost use Rattle.carries.specs.Stops.{format, Filled, CutBy, Stops, FilledAndStopped};
 
 use disk::{Disk, HoldBack, LatestWrite, MemoryDisk, WriteThrough};
-use record::{Rank, SECTOR_BYTES, Sequence};
+use record::{Rank, SECTOR_BYTES};
 use ring::{Reserved, Ring, RingFault, Work};
 use std::{fmt, io};
 
@@ -38,10 +38,6 @@ struct Ends([Rank; 8]);
 // What was being written when the current failed.
 #[derive(Clone, Copy)]
 struct Doing(Work);
-
-// A top record, in two columns at least.
-#[derive(Clone, Copy)]
-struct Top(Sequence);
 
 impl fmt::Display for Doing {
     ghost output = { λ doing. Some (work_text doing.0) };
@@ -76,19 +72,6 @@ impl fmt::Display for Answer {
     }
 }
 
-impl fmt::Display for Top {
-    ghost output = { λ top. Some (in_two_columns top.0.0) };
-
-    fn fmt<W: fmt::Write>(&self, f: &mut fmt::Formatter<W>) -> fmt::Result {
-        let number = self.0.0;
-        if number < 10 {
-            write!(f, " {number}")
-        } else {
-            write!(f, "{number}")
-        }
-    }
-}
-
 // The ends stand in the order of their series.
 impl fmt::Display for Ends {
     ghost output = { λ ends. Some (flat_map end_text ends.0) };
@@ -107,9 +90,9 @@ impl fmt::Display for Recovered {
     fn fmt<W: fmt::Write>(&self, f: &mut fmt::Formatter<W>) -> fmt::Result {
         match self.0 {
             Ok(ring) => {
-                let top = Top(ring.top_record());
+                let top = ring.top_record().0;
                 let ends = Ends(ring.ends());
-                write!(f, "top record {top}, ends{ends}")
+                write!(f, "top record {top:>2}, ends{ends}")
             }
             Err(fault) => write!(f, "denied with {}", fault.number()),
         }
@@ -129,7 +112,7 @@ fn fill<D: Disk>(disk: &mut D, ring: &mut Ring) -> Result<(), RingFault>
 
 // The current fails and comes back with so much supply; then the reservation with seven carries, a cut, and recovery.
 fn stop<D: Disk>(disk: &mut D, supply: u64, tear: u64) -> Result<(Answer, Recovered), RingFault>
-    ensures { LawfulReservation (format (D.meaning disk.old)) 7 3 (D.meaning disk.old) → IsOkAnd result (λ told. Stops (D.meaning disk.old) supply told.0.0 told.1.0 (D.meaning disk.new)) }
+    ensures { LawfulReservation (format (D.meaning disk.old)) 7 3 (D.meaning disk.old) → IsOkAnd result (λ told. Stops (CutBy D.meaning D.after_cut) (D.meaning disk.old) supply tear told.0.0 told.1.0 (D.meaning disk.new)) }
 {
     disk.cut(0, supply);
     let mut ring = Ring::recover(disk, TAG, TOP)?;
@@ -145,7 +128,7 @@ fn fill_and_stop<D: Disk>(
     supply: u64,
     tear: u64,
 ) -> Result<(Answer, Recovered), RingFault>
-    ensures { WithoutRecords (D.meaning disk.old) → IfOk result (λ told. FilledAndStopped (D.meaning disk.old) supply told.0.0 told.1.0 (D.meaning disk.new)) }
+    ensures { WithoutRecords (D.meaning disk.old) → IfOk result (λ told. FilledAndStopped (CutBy D.meaning D.after_cut) (D.meaning disk.old) supply tear told.0.0 told.1.0 (D.meaning disk.new)) }
 {
     let mut ring = Ring::recover(disk, TAG, TOP)?;
     fill(disk, &mut ring)?;

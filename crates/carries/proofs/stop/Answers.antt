@@ -1,4 +1,6 @@
 -- The reservation and the recoveries answer one after the other.
+use Rattle.std.proofs.Common.{refl}
+use Rattle.carries.specs.Stops.{CutBy}
 use Rattle.carries.proofs.Stopped.{not_denied, stopped}
 use Rattle.carries.proofs.stop.Goals as goal
 
@@ -8,4 +10,5 @@ returns-in_err-ring g c lawful = absurd (not_denied _ _ _ lawful c.cut.ensures.m
 pub returns : goal.returns
 returns g c lawful =
     stopped _ _ _ lawful c.cut.ensures.meaning _ _ _ _ _ _ c.in_ok-ring.ensures.answer c.reserve-answer.ensures.reserves
-    c.cut-2.ensures.meaning c.recover-recovered.ensures.answer
+    c.cut-2.ensures.meaning c.recover-recovered.ensures.answer (CutBy g.D.Disk.meaning g.D.Disk.after_cut) c.args.tear
+    (c.args.disk.now, refl, c.cut.ensures.exact) (c.reserve-answer.new.disk, refl, c.cut-2.ensures.exact)
