@@ -91,7 +91,7 @@ module _ (start : Meaning) (without : WithoutRecords start) where
       subst (λ (n : ℕ). LawfulReservation (sized n) 7 3 m) r.recovers.sized.count lawful
 
 pub filled_then_stopped :
-    (cuts : ℕ → ℕ → Meaning → Meaning → Type 0) (start filled end : Meaning) (supply tear : ℕ) (answer : Result Reserved RingFault) (found : Result Ring RingFault) →
+    (cuts : ℕ → ℕ → Meaning → Meaning → Type 0) (start filled end : Meaning) (supply tear : ℕ) (answer : Result ℕ RingFault) (found : Result Ring RingFault) →
     Filled (format start) start 9 filled → Stops cuts filled supply tear answer found end → FilledAndStopped cuts start supply tear answer found end
 filled_then_stopped cuts start filled end supply tear answer found fills stops = record { filled = filled; fills = fills; stops = stops }
 

@@ -13,7 +13,7 @@ use Rattle.ring.specs.declared.token.Reserved.{Reserved}
 use Rattle.ring.proofs.Cuts.{cut_at_rest}
 use Rattle.ring.proofs.Leaves.{cut_within}
 use Rattle.ring.proofs.Starts.{recovers_answer, recovers_agrees}
-use Rattle.carries.specs.Stops.{format, Stops}
+use Rattle.carries.specs.Stops.{format, series_told, Stops}
 
 module _ (start woken : Meaning) (supply : ℕ) (lawful : LawfulReservation (format start) 7 3 start) (begins : Cut start supply woken) where
   abbrev f : Format
@@ -62,13 +62,13 @@ module _ (start woken : Meaning) (supply : ℕ) (lawful : LawfulReservation (for
     abbrev sized : ℕ → Format
     sized n = record { tag = 1; top = record { 0 = 999999998 }; sectors = n }
 
-    stops : (cuts : ℕ → ℕ → Meaning → Meaning → Type 0) (tear : ℕ) → cuts 0 supply start woken → cuts tear 1000 after end → Stops cuts start supply tear answer found end
+    stops : (cuts : ℕ → ℕ → Meaning → Meaning → Type 0) (tear : ℕ) → cuts 0 supply start woken → cuts tear 1000 after end → Stops cuts start supply tear (series_told answer) found end
     stops cuts tear first last =
         record {
           woken = woken;
           begins = begins;
           first = first;
-          answers = rw (same, begins.supplied) at ended.answers;
+          answers = ap series_told (rw (same, begins.supplied) at ended.answers);
           after = after;
           goes =
               subst (λ (n : ℕ). Went woken (performed f (plan f 7 7 3 start.reading) n) after) begins.supplied
@@ -85,7 +85,7 @@ module _ (start woken : Meaning) (supply : ℕ) (lawful : LawfulReservation (for
       Ok r ≡ recovered (format woken) woken.reading →
       (Agrees r woken → refusal r.format r.known.top.0 7 (record { 0 = 3 }) ≡ None → Ended r.format 7 (record { 0 = 3 }) woken answer r' after) →
       Cut after 1000 end → found ≡ recovered (format end) end.reading →
-      (cuts : ℕ → ℕ → Meaning → Meaning → Type 0) (tear : ℕ) → cuts 0 supply start woken → cuts tear 1000 after end → Stops cuts start supply tear answer found end
+      (cuts : ℕ → ℕ → Meaning → Meaning → Type 0) (tear : ℕ) → cuts 0 supply start woken → cuts tear 1000 after end → Stops cuts start supply tear (series_told answer) found end
   stopped r r' after end answer found told reserves ends finds cuts tear first last =
       let is : r ≡ ring = grind (arith, told ∙ wakes) in
       let ended = rw is at reserves in

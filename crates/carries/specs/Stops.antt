@@ -1,7 +1,8 @@
 -- The reservations that fill the ring; then the one with seven carries, stopped by the current, and what recovery finds.
-use Rattle.std.specs.Prelude.{◌≡◌, ℕ, zero, suc, cond, nat_lt, Ok, Result}
+use Rattle.std.specs.Prelude.{◌≡◌, ℕ, zero, suc, cond, nat_lt, Ok, Err, Result}
 use Rattle.record.specs.declared.sector.Format.{Format}
 use Rattle.disk.specs.Meaning.{Meaning, Cut, count}
+use Rattle.disk.specs.Moves.{Moves}
 use Rattle.ring.specs.Left.{Left}
 use Rattle.ring.specs.Operations.{Went, performed, outcome}
 use Rattle.ring.specs.Ring.{plan, recovered}
@@ -31,18 +32,24 @@ Filled f start (suc n) m = (before : Meaning) × Filled f start n before × Made
 abbrev pub third : Reserved
 third = record { series = 7; end = record { 0 = 3 } }
 
+-- a reservation's answer as it is told: the series for which it is made, or the fault
+abbrev pub series_told : Result Reserved RingFault → Result ℕ RingFault
+series_told (Ok reserved) = Ok reserved.series
+series_told (Err fault) = Err fault
+
 -- a cut of a disk of one meaning, with a tear and a supply, leaves the other
-abbrev pub CutBy : {D : Type 0} → (D → Meaning) → (D → ℕ → ℕ → Meaning) → ℕ → ℕ → Meaning → Meaning → Type 0
-CutBy {D} meaning after_cut tear supply m end = (disk : D) × (meaning disk ≡ m) × (end ≡ after_cut disk tear supply)
+abbrev pub CutBy : {D : Type 0} → Moves D → (D → Meaning) → ℕ → ℕ → Meaning → Meaning → Type 0
+CutBy {D} moves meaning tear supply m end =
+    (disk : D) × (left : D) × (meaning disk ≡ m) × (meaning left ≡ end) × moves.cuts disk tear supply left
 
 -- the current fails and comes back with so much supply; the reservation answers what its plan answers with that supply, and
 -- makes the writes and flushes that it allows; then a cut with the tear comes, and recovery answers as the sectors read, which is a ring with the
 -- old ends or the new one
-pub record Stops (cuts : ℕ → ℕ → Meaning → Meaning → Type 0) (start : Meaning) (supply tear : ℕ) (answer : Result Reserved RingFault) (found : Result Ring RingFault) (end : Meaning) : Type 0 where
+pub record Stops (cuts : ℕ → ℕ → Meaning → Meaning → Type 0) (start : Meaning) (supply tear : ℕ) (answer : Result ℕ RingFault) (found : Result Ring RingFault) (end : Meaning) : Type 0 where
   pub woken : Meaning
   pub begins : Cut start supply woken
   pub first : cuts 0 supply start woken
-  pub answers : outcome third (plan (format start) 7 7 3 start.reading) supply ≡ answer
+  pub answers : series_told (outcome third (plan (format start) 7 7 3 start.reading) supply) ≡ answer
   pub after : Meaning
   pub goes : Went woken (performed (format start) (plan (format start) 7 7 3 start.reading) supply) after
   pub ends : Cut after 1000 end
@@ -51,7 +58,7 @@ pub record Stops (cuts : ℕ → ℕ → Meaning → Meaning → Type 0) (start 
   pub leaves : Left (format start) 7 3 start.reading end.reading
 
 -- a disk was filled, and then stopped
-pub record FilledAndStopped (cuts : ℕ → ℕ → Meaning → Meaning → Type 0) (start : Meaning) (supply tear : ℕ) (answer : Result Reserved RingFault) (found : Result Ring RingFault) (end : Meaning) : Type 0 where
+pub record FilledAndStopped (cuts : ℕ → ℕ → Meaning → Meaning → Type 0) (start : Meaning) (supply tear : ℕ) (answer : Result ℕ RingFault) (found : Result Ring RingFault) (end : Meaning) : Type 0 where
   pub filled : Meaning
   pub fills : Filled (format start) start 9 filled
   pub stops : Stops cuts filled supply tear answer found end

@@ -10,7 +10,6 @@ use Rattle.ring.specs.declared.fault.RingFault.TheVariants.{Size, Foreign, LiveI
 use Rattle.ring.specs.declared.fault.Work.{Work}
 use Rattle.ring.specs.declared.fault.Work.TheVariants.{Carry, Reservation}
 use Rattle.ring.specs.declared.ring.Ring.{Ring}
-use Rattle.ring.specs.declared.token.Reserved.{Reserved}
 
 -- what was being written
 abbrev pub work_text : Work → List ℕ
@@ -34,8 +33,8 @@ stopped_text (Interrupted stopped) =
     codes "dark at the " ++ (name_of stopped.fault.operation ++ (codes " of sector " ++ (decimal stopped.fault.sector ++ (codes ", " ++ work_text stopped.work))))
 
 -- what a reservation answers
-abbrev pub answer_text : Result Reserved RingFault → List ℕ
-answer_text (Ok reserved) = codes "series " ++ (decimal reserved.series ++ codes " has reserved                     ")
+abbrev pub answer_text : Result ℕ RingFault → List ℕ
+answer_text (Ok series) = codes "series " ++ (decimal series ++ codes " has reserved                     ")
 answer_text (Err fault) = stopped_text fault
 
 -- a space and an end

@@ -2,11 +2,11 @@
 // of its sixteen writes and flushes in turn.
 #![tactic(auto)]
 
-ghost use Rattle.std.specs.Prelude.{Some, IfOk, IsOkAnd, flat_map};
+ghost use Rattle.std.specs.Prelude.{◌≡◌, Some, IfOk, IsOkAnd, flat_map};
 ghost use Rattle.ring.specs.Left.{LawfulReservation, WithoutRecords};
 ghost use Rattle.ring.specs.Ring.{Agrees};
 ghost use Rattle.carries.specs.Texts.{work_text, answer_text, end_text, recovered_text};
-ghost use Rattle.carries.specs.Stops.{format, Filled, CutBy, Stops, FilledAndStopped};
+ghost use Rattle.carries.specs.Stops.{format, series_told, Filled, CutBy, Stops, FilledAndStopped};
 
 use disk::{Disk, HoldBack, LatestWrite, MemoryDisk, WriteThrough};
 use record::{Rank, SECTOR_BYTES};
@@ -23,9 +23,9 @@ const TOP: Rank = Rank(999_999_998);
 
 const SUPPLY: u64 = 1_000;
 
-// What a reservation answers: that it is made, or where it was stopped.
+// What a reservation answers: the series for which it is made, or where it was stopped.
 #[derive(Clone, Copy)]
-struct Answer(Result<Reserved, RingFault>);
+struct Answer(Result<u8, RingFault>);
 
 // What recovery finds: the top record and the eight ends, or why there is no ring.
 #[derive(Clone, Copy)]
@@ -56,11 +56,7 @@ impl fmt::Display for Answer {
 
     fn fmt<W: fmt::Write>(&self, f: &mut fmt::Formatter<W>) -> fmt::Result {
         match self.0 {
-            Ok(reserved) => write!(
-                f,
-                "series {} has reserved                     ",
-                reserved.series()
-            ),
+            Ok(series) => write!(f, "series {series} has reserved                     "),
             Err(RingFault::Interrupted(stopped)) => {
                 let operation = stopped.fault.operation;
                 let sector = stopped.fault.sector;
@@ -104,22 +100,32 @@ fn fill<D: Disk>(disk: &mut D, ring: &mut Ring) -> Result<(), RingFault>
     ensures { Agrees ring.old (D.meaning disk.old) → IfOk result (λ _. Filled ring.old.format (D.meaning disk.old) 9 (D.meaning disk.new)) }
 {
     for series in 0..8u8 {
-        ring.reserve(disk, series, Rank(1))?;
+        ring.reserve(disk, series, Rank(1))?.let_go();
     }
-    ring.reserve(disk, 7, Rank(2))?;
+    ring.reserve(disk, 7, Rank(2))?.let_go();
     Ok(())
+}
+
+// What a reservation answered; of one that is made, no rank is drawn.
+fn told(answer: Result<Reserved, RingFault>) -> Answer
+    ensures { result.0 ≡ series_told answer }
+{
+    match answer {
+        Ok(reserved) => Answer(Ok(reserved.let_go())),
+        Err(fault) => Answer(Err(fault)),
+    }
 }
 
 // The current fails and comes back with so much supply; then the reservation with seven carries, a cut, and recovery.
 fn stop<D: Disk>(disk: &mut D, supply: u64, tear: u64) -> Result<(Answer, Recovered), RingFault>
-    ensures { LawfulReservation (format (D.meaning disk.old)) 7 3 (D.meaning disk.old) → IsOkAnd result (λ told. Stops (CutBy D.meaning D.after_cut) (D.meaning disk.old) supply tear told.0.0 told.1.0 (D.meaning disk.new)) }
+    ensures { LawfulReservation (format (D.meaning disk.old)) 7 3 (D.meaning disk.old) → IsOkAnd result (λ told. Stops (CutBy D.moves D.meaning) (D.meaning disk.old) supply tear told.0.0 told.1.0 (D.meaning disk.new)) }
 {
     disk.cut(0, supply);
     let mut ring = Ring::recover(disk, TAG, TOP)?;
-    let answer = ring.reserve(disk, 7, Rank(3));
+    let answer = told(ring.reserve(disk, 7, Rank(3)));
     disk.cut(tear, SUPPLY);
     let recovered = Ring::recover(disk, TAG, TOP);
-    Ok((Answer(answer), Recovered(recovered)))
+    Ok((answer, Recovered(recovered)))
 }
 
 // A disk is filled, and then stopped.
@@ -128,7 +134,7 @@ fn fill_and_stop<D: Disk>(
     supply: u64,
     tear: u64,
 ) -> Result<(Answer, Recovered), RingFault>
-    ensures { WithoutRecords (D.meaning disk.old) → IfOk result (λ told. FilledAndStopped (CutBy D.meaning D.after_cut) (D.meaning disk.old) supply tear told.0.0 told.1.0 (D.meaning disk.new)) }
+    ensures { WithoutRecords (D.meaning disk.old) → IfOk result (λ told. FilledAndStopped (CutBy D.moves D.meaning) (D.meaning disk.old) supply tear told.0.0 told.1.0 (D.meaning disk.new)) }
 {
     let mut ring = Ring::recover(disk, TAG, TOP)?;
     fill(disk, &mut ring)?;

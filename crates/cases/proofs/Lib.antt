@@ -1,3 +1,1 @@
-pub mod Allows
-pub mod Computed
-pub mod Goes
+mod Computed

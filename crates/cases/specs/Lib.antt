@@ -1,4 +1,1 @@
-pub mod Allowed
-pub mod Exact
-pub mod Run
 pub mod Table

@@ -9,14 +9,15 @@ use Rattle.disk.specs.Meaning.{Meaning}
 use Rattle.kind.specs.Time.{seconds_of, time_floor, time_identifier}
 use Rattle.kind.specs.declared.time.TimeKind.{TimeKind}
 use Rattle.server.specs.Faults.{number_of}
-use Rattle.server.specs.Rules.{Decision, refuse, hand, reserve, decision, woken}
+use Rattle.server.specs.Rules.{one, Wish, declines, draws, decide, end_at, next_at, woken}
 use Rattle.server.specs.declared.state.Up.{Up}
+use Rattle.simulator.specs.Files.{print_from, print_of_file}
 use Rattle.simulator.specs.Kinds.{numbering_of}
 use Rattle.simulator.specs.Stages.{runs}
+use Rattle.simulator.specs.Takes.{Run}
 use Rattle.simulator.specs.declared.any_kind.AnyKind.{AnyKind}
 use Rattle.simulator.specs.declared.any_kind.AnyKind.TheVariants.{Serial, Time}
 use Rattle.simulator.specs.declared.device.Make.TheVariants.{Faithful}
-use Rattle.cases.specs.Run.{Run, print_from, print_of_file}
 
 -- lines of text, each with its line feed
 abbrev pub text : List (List ℕ) → List ℕ
@@ -33,10 +34,9 @@ box_with box byte =
     }
 
 -- the number that a request is refused with; 0 where it is not
-abbrev pub refusal_of : Decision → ℕ
-refusal_of (refuse fault) = number_of fault
-refusal_of (hand rank) = 0
-refusal_of (reserve rank) = 0
+abbrev pub refusal_of : Wish → ℕ
+refusal_of (declines fault) = number_of fault
+refusal_of (draws s first n claimed) = 0
 
 -- what a case says: a memory, the lines of a request file and the lines of its print; the same of a run that has begun; bytes
 -- and their checksum; a byte and its correction; a correction byte, a raw reading and its floor; the same, and the number that
@@ -58,7 +58,7 @@ Holds (sums bytes sum) = crc bytes ≡ sum
 Holds (corrects byte seconds) = seconds_of (record { 0 = byte }) ≡ seconds
 Holds (has_floor byte raw floor) = time_floor (box_with 0 byte) (record { 0 = raw }) ≡ Some (record { 0 = floor })
 Holds (denies byte raw number) =
-    (server : Up) → refusal_of (decision (numbering_of (Time (box_with 0 byte))) server 0 (record { 0 = raw })) ≡ number
+    (server : Up) → refusal_of (decide (numbering_of (Time (box_with 0 byte))) (end_at server) (next_at server) (one 0 (record { 0 = raw }))) ≡ number
 Holds (identifies box ms series step identifier) =
     time_identifier (box_with box 0) series (record { 0 = ms * 4096 + step }) ≡ record { 0 = identifier }
 
@@ -83,7 +83,7 @@ serial = Serial (record { size = 3; in_range = (lit≤ tt, lit≤ tt) })
 -- a server that wakes on the almost full disk
 abbrev pub near_the_top : Run
 near_the_top =
-    record { make = Faithful; view = runs serial (woken (numbering_of serial) almost_full) almost_full []; taken = 2 }
+    record { view = runs Faithful serial (woken (numbering_of serial) almost_full) almost_full []; taken = 2 }
 
 -- the cases
 abbrev pub table : List Case

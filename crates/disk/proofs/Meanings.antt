@@ -1,6 +1,6 @@
 -- Meanings of a disk, by their parts.
 use Rattle.std.proofs.Common.{◌≡◌, ℕ, List, sym, ap, ◌∙◌, subst}
-use Rattle.disk.specs.Devices.{memory_disk, after_cut}
+use Rattle.disk.specs.Devices.{memory_disk}
 use Rattle.disk.specs.Holding.{Holding, LawfulHolding}
 use Rattle.disk.specs.Meaning.{Meaning, Cut}
 use Rattle.disk.specs.Memory.{sectors, spare}
@@ -26,13 +26,10 @@ module _ {H : Type 0} (w : Holding H) (laws : LawfulHolding w) (d d' : MemoryDis
   abbrev memory' : List ℕ
   memory' = d'.sectors.memory.now
 
-  pub is_after_cut :
+  pub is_cut :
       sectors memory' ≡ w.left_sectors tear d.held (sectors memory) → spare memory' ≡ spare memory → d'.held ≡ w.nothing → d'.supply ≡ supply →
-      memory_disk w.before d' ≡ after_cut w.left_sectors d tear supply
-  is_after_cut left rest none supplied =
-      same_parts _ _ _ _ _ _ _ _ left (all_kept w laws d'.held (sectors memory') none ∙ left) supplied rest
-
-  pub is_cut : memory_disk w.before d' ≡ after_cut w.left_sectors d tear supply → Cut (memory_disk w.before d) supply (memory_disk w.before d')
-  is_cut e =
-      subst (λ (m : Meaning). Cut (memory_disk w.before d) supply m) (sym e)
+      Cut (memory_disk w.before d) supply (memory_disk w.before d')
+  is_cut left rest none supplied =
+      subst (λ (m : Meaning). Cut (memory_disk w.before d) supply m)
+      (sym (same_parts _ _ _ _ _ _ _ _ left (all_kept w laws d'.held (sectors memory') none ∙ left) supplied rest))
       (laws.cuts d.held tear d.supply supply (sectors memory) (spare memory))

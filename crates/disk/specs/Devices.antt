@@ -1,10 +1,11 @@
 -- What the two devices mean, and what a cut leaves.
-use Rattle.std.specs.Prelude.{ℕ, ◌%◌, cond, not, ◌&&◌, List, ◌++◌, length, take, drop, Some, None, Option, nat_lt, slice_set}
+use Rattle.std.specs.Prelude.{◌≡◌, ℕ, ◌-◌, ◌%◌, Bool, cond, not, ◌&&◌, List, ◌++◌, length, take, drop, Some, None, Option, nat_lt, slice_set}
 use Rattle.std.specs.Str.{bytes_eq}
 use Rattle.record.specs.Sector.{sound}
 use Rattle.disk.specs.Holding.{Holding}
 use Rattle.disk.specs.Meaning.{Meaning, at}
 use Rattle.disk.specs.Memory.{sectors, spare, stored}
+use Rattle.disk.specs.Moves.{Moves}
 use Rattle.disk.specs.declared.faithful.WriteThrough.{WriteThrough}
 use Rattle.disk.specs.declared.memory.MemoryDisk.{MemoryDisk}
 use Rattle.disk.specs.declared.torn.Held.{Held}
@@ -19,14 +20,55 @@ memory_disk before d =
       beyond = spare d.sectors.memory.now;
     }
 
--- a cut of it with a tear and a new supply leaves what is left of the writes that are held back
-abbrev pub after_cut : {H : Type 0} → (ℕ → H → List (List ℕ) → List (List ℕ)) → MemoryDisk H → ℕ → ℕ → Meaning
-after_cut left d tear supply =
+-- all that there is to a disk over memory: its sectors and the bytes past them, what it holds back, and its supply
+pub record Stands (H : Type 0) : Type 0 where
+  pub reading : List (List ℕ)
+  pub beyond : List ℕ
+  pub held : H
+  pub supply : ℕ
+
+abbrev pub stands : {H : Type 0} → MemoryDisk H → Stands H
+stands d =
     record {
-      reading = left tear d.held (sectors d.sectors.memory.now);
-      kept = left tear d.held (sectors d.sectors.memory.now);
-      supply = supply;
+      reading = sectors d.sectors.memory.now;
       beyond = spare d.sectors.memory.now;
+      held = d.held;
+      supply = d.supply;
+    }
+
+-- whether a write or a flush of a sector succeeds
+abbrev pub succeeds : {H : Type 0} → Stands H → ℕ → Bool
+succeeds x i = nat_lt i (length x.reading) && nat_lt 0 x.supply
+
+-- as it stands after a write, a flush and a cut: a denied one changes nothing
+abbrev pub after_write : {H : Type 0} → Holding H → Stands H → ℕ → List ℕ → Stands H
+after_write w x i bytes =
+    cond (succeeds x i)
+    (record {
+      reading = slice_set x.reading i bytes;
+      beyond = x.beyond;
+      held = w.with_write x.held i (at x.reading i);
+      supply = x.supply - 1;
+    })
+    x
+
+abbrev pub after_flush : {H : Type 0} → Holding H → Stands H → ℕ → Stands H
+after_flush w x i =
+    cond (succeeds x i)
+    (record { reading = x.reading; beyond = x.beyond; held = w.nothing; supply = x.supply - 1 })
+    x
+
+abbrev pub after_cut : {H : Type 0} → Holding H → Stands H → ℕ → ℕ → Stands H
+after_cut w x tear supply =
+    record { reading = w.left_sectors tear x.held x.reading; beyond = x.beyond; held = w.nothing; supply = supply }
+
+-- so each call of it makes one disk into another, and leaves nothing open
+abbrev pub memory_moves : {H : Type 0} → Holding H → Moves (MemoryDisk H)
+memory_moves w =
+    record {
+      writes = λ d i bytes d'. stands d' ≡ after_write w (stands d) i bytes;
+      flushes = λ d i d'. stands d' ≡ after_flush w (stands d) i;
+      cuts = λ d tear supply d'. stands d' ≡ after_cut w (stands d) tear supply;
     }
 
 -- no write is ever held back

@@ -1,7 +1,8 @@
 // What every disk promises.
-ghost use Rattle.std.specs.Prelude.{◌≡◌, ℕ, MatchResult};
+ghost use Rattle.std.specs.Prelude.{◌≡◌, MatchResult};
 ghost use Rattle.disk.specs.Memory.{IsSize};
 ghost use Rattle.disk.specs.Meaning.{Meaning, Shaped, count, found, answer_of, Wrote, Flushed, Cut};
+ghost use Rattle.disk.specs.Moves.{Moves};
 ghost use Rattle.disk.specs.declared.fault.Operation.TheVariants.{Write, Flush};
 
 use crate::fault::DiskFault;
@@ -11,8 +12,8 @@ use record::SECTOR_BYTES;
 pub trait Disk {
     ghost meaning: { Self → Meaning };
 
-    // What a cut with a tear and a new supply leaves of it.
-    ghost after_cut: { Self → ℕ → ℕ → Meaning };
+    // What each call makes of one disk into another, denied calls with it.
+    ghost moves: { Moves Self };
 
     // The number of sectors.
     fn sectors(&self) -> usize
@@ -25,17 +26,19 @@ pub trait Disk {
     // Replaces a sector. What is kept of it is open until a flush.
     fn write(&mut self, sector: usize, bytes: &[u8; SECTOR_BYTES]) -> Result<(), DiskFault>
         ensures answer { result ≡ answer_of Write (meaning self.old) sector }
-        ensures effect { MatchResult result (λ _. Wrote (meaning self.old) sector bytes.now (meaning self.new)) (λ _. meaning self.new ≡ meaning self.old) };
+        ensures effect { MatchResult result (λ _. Wrote (meaning self.old) sector bytes.now (meaning self.new)) (λ _. meaning self.new ≡ meaning self.old) }
+        ensures moves { moves.writes self.old sector bytes.now self.new };
 
     // Settles all writes. The sector is that of the latest write, which a fault then tells.
     fn flush(&mut self, sector: usize) -> Result<(), DiskFault>
         ensures answer { result ≡ answer_of Flush (meaning self.old) sector }
-        ensures effect { MatchResult result (λ _. Flushed (meaning self.old) (meaning self.new)) (λ _. meaning self.new ≡ meaning self.old) };
+        ensures effect { MatchResult result (λ _. Flushed (meaning self.old) (meaning self.new)) (λ _. meaning self.new ≡ meaning self.old) }
+        ensures moves { moves.flushes self.old sector self.new };
 
     // The current fails and comes back, with so many writes and flushes to succeed. The tear says how a write is torn.
     fn cut(&mut self, tear: u64, supply: u64)
         ensures meaning { Cut (meaning self.old) supply (meaning self.new) }
-        ensures exact { meaning self.new ≡ after_cut self.old tear supply };
+        ensures moves { moves.cuts self.old tear supply self.new };
 
     // Sectors have 32 bytes, and as many are kept as are read.
     ghost shaped: { (disk : Self) → Shaped (meaning disk) };

@@ -1,6 +1,6 @@
 // A disk over memory handed in.
 ghost use Rattle.std.specs.Prelude.{◌≡◌, length, is_ok, IfOk, if◌then◌else◌, MatchResult};
-ghost use Rattle.disk.specs.Devices.{memory_disk, after_cut};
+ghost use Rattle.disk.specs.Devices.{memory_disk, memory_moves};
 ghost use Rattle.disk.specs.Meaning.{at, answer_of, Wrote, Flushed, Cut};
 ghost use Rattle.disk.specs.Shape.{all_shaped, all_sized};
 ghost use Rattle.disk.specs.Memory.{right_size, sectors as cut_up, stored};
@@ -44,7 +44,7 @@ impl<'a, H: HoldBack> MemoryDisk<'a, H> {
 impl<H: HoldBack> Disk for MemoryDisk<'_, H> {
     ghost meaning = { memory_disk H.holding.before };
 
-    ghost after_cut = { after_cut H.holding.left_sectors };
+    ghost moves = { memory_moves H.holding };
 
     ghost shaped = { λ disk. record { bytes = all_shaped disk.sectors.memory.now; keeps = H.lawful.before_count disk.held (cut_up disk.sectors.memory.now) } };
 
@@ -61,6 +61,7 @@ impl<H: HoldBack> Disk for MemoryDisk<'_, H> {
     fn write(&mut self, sector: usize, bytes: &[u8; SECTOR_BYTES]) -> Result<(), DiskFault>
         ensures answer { result ≡ answer_of Write (memory_disk H.holding.before self.old) sector }
         ensures effect { MatchResult result (λ _. Wrote (memory_disk H.holding.before self.old) sector bytes.now (memory_disk H.holding.before self.new)) (λ _. memory_disk H.holding.before self.new ≡ memory_disk H.holding.before self.old) }
+        ensures moves { (memory_moves H.holding).writes self.old sector bytes.now self.new }
         ensures memory { self.new.sectors.memory.now ≡ (if is_ok result then stored self.old.sectors.memory.now sector bytes.now else self.old.sectors.memory.now) }
         ensures holds { self.new.held ≡ (if is_ok result then H.holding.with_write self.old.held sector (at (cut_up self.old.sectors.memory.now) sector) else self.old.held) }
     {
@@ -74,6 +75,7 @@ impl<H: HoldBack> Disk for MemoryDisk<'_, H> {
     fn flush(&mut self, sector: usize) -> Result<(), DiskFault>
         ensures answer { result ≡ answer_of Flush (memory_disk H.holding.before self.old) sector }
         ensures effect { MatchResult result (λ _. Flushed (memory_disk H.holding.before self.old) (memory_disk H.holding.before self.new)) (λ _. memory_disk H.holding.before self.new ≡ memory_disk H.holding.before self.old) }
+        ensures moves { (memory_moves H.holding).flushes self.old sector self.new }
         ensures memory { self.new.sectors.memory.now ≡ self.old.sectors.memory.now }
         ensures holds { self.new.held ≡ (if is_ok result then H.holding.nothing else self.old.held) }
     {
@@ -84,7 +86,7 @@ impl<H: HoldBack> Disk for MemoryDisk<'_, H> {
 
     fn cut(&mut self, tear: u64, supply: u64)
         ensures meaning { Cut (memory_disk H.holding.before self.old) supply (memory_disk H.holding.before self.new) }
-        ensures exact { memory_disk H.holding.before self.new ≡ after_cut H.holding.left_sectors self.old tear supply }
+        ensures moves { (memory_moves H.holding).cuts self.old tear supply self.new }
         ensures memory { self.new.sectors.memory.now ≡ H.holding.left tear self.old.held self.old.sectors.memory.now }
         ensures sectors { cut_up self.new.sectors.memory.now ≡ H.holding.left_sectors tear self.old.held (cut_up self.old.sectors.memory.now) }
         ensures holds { self.new.held ≡ H.holding.nothing }

@@ -1,16 +1,15 @@
 -- What holds of a server between calls: while it is up, and while it is down since the disk went dark.
-use Rattle.std.proofs.Common.{◌≡◌, ℕ, ◌+◌, ◌*◌, ◌<◌, ◌≤◌, min, max, true, false, cond, ◌&&◌, eqb, List, length, Some, None}
+use Rattle.std.proofs.Common.{◌≡◌, ℕ, ◌+◌, ◌<◌, ◌≤◌, max, true, false, cond, ◌&&◌, eqb, List, ◌∷◌, length, Some, None}
 use Rattle.disk.specs.Meaning.{Meaning, Cut}
 use Rattle.kind.specs.Meaning.{Numbering}
 use Rattle.ring.specs.Left.{Left}
 use Rattle.ring.specs.Ring.{top, Agrees}
-use Rattle.server.specs.History.{Event, latest, end_in, next, floor_since, after_last, cuts_since, loss, dark, writes, standing, top_record}
-use Rattle.server.specs.Promise.{FloorsZero}
-use Rattle.server.specs.Rules.{format, next_in}
+use Rattle.server.specs.History.{Event, latest, end_in, next, floor_since, after_last, cuts_since, lost, loss, dark, writes, standing, top_record}
+use Rattle.server.specs.Rules.{format, Range, end_at, next_at}
 use Rattle.server.specs.declared.state.State.{State}
 use Rattle.server.specs.declared.state.State.TheVariants.{Up as Awake, Down}
 use Rattle.server.specs.declared.state.Up.{Up}
-use Rattle.history.proofs.Series.{Series}
+use Rattle.history.proofs.Series.{Series, Counted, InBlocks}
 
 -- up: what the ring knows is what the disk reads and keeps, and every series is in order
 pub record IsUp (k : Numbering) (start : Meaning) (past : List Event) (u : Up) : Type 0 where
@@ -18,8 +17,9 @@ pub record IsUp (k : Numbering) (start : Meaning) (past : List Event) (u : Up) :
   pub agrees : Agrees u.ring (latest start past)
   pub form : u.ring.format ≡ format k start
   pub kept : (latest start past).kept ≡ (latest start past).reading
-  pub eight : length u.nexts ≡ 8
-  pub nexts : (s : ℕ) → s < 8 → (next_in u.nexts s).0 ≡ next k start s past
+  pub eight : length u.blocks ≡ 8
+  pub nexts : (s : ℕ) → s < 8 → next_at u s ≡ next k start s past
+  pub ends : (s : ℕ) → s < 8 → end_at u s ≡ end_in k start (latest start past) s
   pub series : (s : ℕ) → s < 8 → Series k start past s (end_in k start (latest start past) s)
   pub tops : top_record k start past ≤ writes k start past
 
@@ -28,27 +28,25 @@ pub record IsDown (k : Numbering) (start : Meaning) (past : List Event) : Type 0
   pub unlit : dark k start past ≡ true
   pub base : Meaning
   pub pending : ℕ
-  pub end : ℕ
+  pub claimed : Range
   pub one_of_eight : pending < 8
   pub leaves :
       (left : Meaning) (supply : ℕ) → Cut (latest start past) supply left →
-      Left (format k start) pending end base.reading left.reading
+      Left (format k start) pending claimed.end base.reading left.reading
   pub tops :
       (left : Meaning) (supply : ℕ) → Cut (latest start past) supply left →
       top (format k start) left.reading ≤ writes k start past
   pub read_tops : top_record k start past ≤ writes k start past
   pub series : (s : ℕ) → s < 8 → Series k start past s (end_in k start base s)
-  pub above : end_in k start base pending < end
+  pub above : end_in k start base pending < claimed.end
   pub most :
-      end ≤ max (after_last k start pending past) (floor_since k pending past) + loss k (cuts_since pending past) + k.block
+      claimed.end ≤ max (after_last k start pending past) (floor_since k pending past) + loss k past (cuts_since pending past) + lost k past
   pub stands :
       (s : ℕ) (left : Meaning) →
       standing k start s (Some left) past
-      ≡ cond (eqb pending s && eqb (end_in k start left s) end) (standing k start s None past + 1) (standing k start s None past)
-  pub counted :
-      FloorsZero k →
-      (end ≡ min ((standing k start pending None past + 1) * k.block) (k.top.0 + 1))
-      × (end_in k start base pending ≡ standing k start pending None past * k.block)
+      ≡ cond (eqb pending s && eqb (end_in k start left s) claimed.end) (claimed ∷ standing k start s None past) (standing k start s None past)
+  -- as it would be if it stood
+  pub counted : InBlocks k past → Counted k claimed.end (claimed ∷ standing k start pending None past)
 
 abbrev pub Invariant : Numbering → Meaning → List Event → State → Type 0
 Invariant k start past (Awake u) = IsUp k start past u

@@ -1,8 +1,10 @@
+pub mod Decides
+pub mod Draws
 pub mod Given
 pub mod Invariant
 pub mod Obeys
 pub mod Quiet
-pub mod Reserved
 pub mod Series
 pub mod Serves
+pub mod Tries
 pub mod Wakes

@@ -1,110 +1,94 @@
--- Requests that touch no disk: denied ones, and ranks handed out of the block in hand.
-use Rattle.std.proofs.Common.{◌≡◌, ℕ, ◌+◌, ◌-◌, ◌^◌, ◌<◌, ◌≤◌, false, ◌||◌, List, [], ◌∷◌, Some, None, Ok, Err, Option, Result, sym, refl, ap, ◌∙◌, subst, ⊎_elim, arith}
-use Rattle.std.proofs.lemmas.Bool.{cases_eq, ne_eqb, or_from, cond-false, le-ltb}
-use Rattle.record.specs.declared.numbers.Identifier.{Identifier}
-use Rattle.record.specs.declared.numbers.Rank.{Rank}
-use Rattle.record.specs.declared.numbers.Reading.{Reading}
+-- Calls that touch no disk: denied ones, and ranks drawn from the block in hand.
+use Rattle.std.proofs.Common.{◌≡◌, ℕ, ◌+◌, ◌-◌, ◌^◌, ◌<◌, ◌≤◌, ◌||◌, List, [], ◌∷◌, ◌++◌, length, Some, None, Option, sym, refl, ap, ◌∙◌, subst, arith}
+use Rattle.std.proofs.lemmas.Bool.{or_from, cond-false, le-ltb}
 use Rattle.disk.specs.Meaning.{Meaning}
 use Rattle.kind.specs.Meaning.{Numbering}
 use Rattle.ring.specs.Operations.{Op, Went, performed, writes_in}
-use Rattle.ring.specs.Ring.{top, Step}
-use Rattle.server.specs.History.{Event, request, latest, end_in, dark, wanted, asked, writes, stood, too_little, block_to, top_record}
-use Rattle.server.specs.Promise.{WithinLoss, Ground, RequestLaws}
-use Rattle.server.specs.Rules.{format}
-use Rattle.server.specs.declared.fault.ServerFault.{ServerFault}
-use Rattle.server.specs.declared.fault.ServerFault.TheVariants.{AboveTop}
+use Rattle.ring.specs.Ring.{Step}
+use Rattle.ring.specs.declared.token.Block.{Block}
+use Rattle.server.specs.History.{Event, asks, told, after_of, latest, end_in, next, wish, wanted, asked, succeeded, too_little, dark_by, dark, writes_by, writes, reserved_by, made, cut_from, standing}
+use Rattle.server.specs.Rules.{format, Ask, Range, Wish, draws, end_at, next_at}
 use Rattle.server.specs.declared.state.Up.{Up}
 use Rattle.history.proofs.Invariant.{IsUp}
-use Rattle.history.proofs.Series.{Series, series_other, series_denied}
+use Rattle.history.proofs.Series.{Series, GivesNone, series_kept}
 
-pub none-performed : (k : Numbering) (start : Meaning) (steps : List Step) (supply : ℕ) → steps ≡ [] → performed (format k start) steps supply ≡ []
+none-performed : (k : Numbering) (start : Meaning) (steps : List Step) (supply : ℕ) → steps ≡ [] → performed (format k start) steps supply ≡ []
 unfolding performed
 none-performed k start steps supply e = ap (λ (x : List Step). performed (format k start) x supply) e
 
-pub none_written : (ops : List Op) → ops ≡ [] → writes_in ops ≡ 0
+none_written : (ops : List Op) → ops ≡ [] → writes_in ops ≡ 0
 unfolding writes_in
 none_written ops e = ap writes_in e
 
-pub none-stood : (k : Numbering) (start : Meaning) (s end supply : ℕ) (x : Option Meaning) (steps : List Step) → steps ≡ [] → stood k start s end supply x steps ≡ false
-none-stood k start s end supply x steps e = ap (stood k start s end supply x) e
+none-reserved : (k : Numbering) (start : Meaning) (s supply : ℕ) (x : Option Meaning) (want : Wish) → reserved_by k start s supply x want [] ≡ []
+none-reserved k start s supply x (draws t first n (Some claimed)) = refl
+none-reserved k start s supply x want = refl
 
 -- sequence numbers run short only after that many writes
 pub numbers_last : (top written : ℕ) → top ≤ written → 2 ^ 62 - 1 < top + 8 → 2 ^ 62 - 8 ≤ written
 numbers_last top written l h = omega arith
 
--- an answer is one thing
-pub err_not_ok : {A : Type 0} (fault : ServerFault) (x : Identifier) → Err fault ≡ Ok x → A
-err_not_ok fault x e = absurd (let z : ◌≡◌ {A = ℕ} 0 1 = cc in omega arith)
+-- an event that asks for something
+module _ (k : Numbering) (start : Meaning) (past : List Event) (event : Event) (ask : Ask) (is : asks event ≡ Some ask) where
+  pub dark_is : dark k start (event ∷ past) ≡ (dark k start past || too_little (latest start past).supply (wanted k start ask past))
+  dark_is = ap (dark_by k start past (dark k start past)) is
 
--- a request that asks for no write
-module _ (k : Numbering) (start : Meaning) (past : List Event) (s : ℕ) (reading : Reading) (nothing : asked k start s reading past ≡ []) where
-  pub touches_none : Went (latest start past) (performed (format k start) (asked k start s reading past) (latest start past).supply) (latest start past)
-  touches_none =
-      subst (λ (ops : List Op). Went (latest start past) ops (latest start past))
-      (sym (none-performed k start (asked k start s reading past) (latest start past).supply nothing)) refl
+  pub writes_is : writes k start (event ∷ past) ≡ writes k start past + writes_in (succeeded k start ask past)
+  writes_is = ap (writes_by k start past (writes k start past)) is
 
-  pub writes-none : (answer : Result Identifier ServerFault) (m : Meaning) → writes k start (request s reading answer m ∷ past) ≡ writes k start past
-  writes-none answer m =
-      let z = none_written (performed (format k start) (asked k start s reading past) (latest start past).supply) (none-performed k start (asked k start s reading past) (latest start past).supply nothing) in
-      omega arith
+  pub standing_is : (s : ℕ) (x : Option Meaning) → standing k start s x (event ∷ past) ≡ made k start s x past (Some ask) ++ standing k start s x past
+  standing_is s x = ap (λ (o : Option Ask). made k start s x past o ++ standing k start s (cut_from o (after_of event) x) past) is
 
-  -- a denied one leaves every series as it is
-  pub series_quiet :
-      (fault : ServerFault) (m : Meaning) (t end : ℕ) → Series k start past t end → Series k start (request s reading (Err fault) m ∷ past) t end
-  series_quiet fault m t end inv =
-      ⊎_elim
-      (λ own.
-      subst (λ (x : ℕ). Series k start (request s reading (Err fault) m ∷ past) x end) own
-      (series_denied k start past s end (subst (λ (x : ℕ). Series k start past x end) (sym own) inv) reading fault m
-      (none-stood k start s (block_to k start s reading past) (latest start past).supply None (asked k start s reading past) nothing)))
-      (λ other. series_other k start past t end inv s reading (Err fault) m (ne_eqb s t other))
-      (cases_eq s t)
+-- a call that asks for no write, and leaves the disk as it is
+pub record Quiet (k : Numbering) (start : Meaning) (past : List Event) (event : Event) (ask : Ask) : Type 0 where
+  pub is : asks event ≡ Some ask
+  pub here : after_of event ≡ latest start past
+  pub nothing : asked k start ask past ≡ []
 
--- the rank of a request keeps the bound on loss, as long as its series is in order
-pub within_loss : (k : Numbering) (start : Meaning) (past : List Event) (s end : ℕ) (reading : Reading) → Series k start past s end → WithinLoss k start s reading past
-within_loss k start past s end reading inv = omega (arith, inv.bound)
+module _ {k : Numbering} {start : Meaning} {past : List Event} {event : Event} {ask : Ask} (q : Quiet k start past event ask) where
+  none_succeeds : succeeded k start ask past ≡ []
+  none_succeeds = none-performed k start (asked k start ask past) (latest start past).supply q.nothing
 
--- while the server is up
-module _ (k : Numbering) (start : Meaning) (past : List Event) (u : Up) (inv : IsUp k start past u) (s : ℕ) (reading : Reading) where
-  pub asked_lit : asked k start s reading past ≡ wanted k start s reading past
-  asked_lit = cond-false (dark k start past) [] (wanted k start s reading past) inv.lit
+  pub touches_none : Went (latest start past) (succeeded k start ask past) (latest start past)
+  touches_none = subst (λ (ops : List Op). Went (latest start past) ops (latest start past)) (sym none_succeeds) refl
 
-  module _ (nothing : wanted k start s reading past ≡ []) where
-    asks_nothing : asked k start s reading past ≡ []
-    asks_nothing = asked_lit ∙ nothing
+  pub writes_none : writes k start (event ∷ past) ≡ writes k start past
+  writes_none = omega (arith, writes_is k start past event ask q.is, none_written (succeeded k start ask past) none_succeeds)
 
-    pub still_lit : (dark k start past || too_little (latest start past).supply (wanted k start s reading past)) ≡ false
-    still_lit =
-        or_from (dark k start past) (too_little (latest start past).supply (wanted k start s reading past)) inv.lit
-        (ap (too_little (latest start past).supply) nothing ∙ le-ltb (latest start past).supply 0 (omega arith))
+  pub standing_none : (s : ℕ) (x : Option Meaning) → standing k start s x (event ∷ past) ≡ standing k start s x past
+  standing_none s x =
+      standing_is k start past event ask q.is s x
+      ∙ ap (λ (steps : List Step). reserved_by k start s (latest start past).supply x (wish k start ask past) steps ++ standing k start s x past) q.nothing
+      ∙ ap (λ (rs : List Range). rs ++ standing k start s x past) (none-reserved k start s (latest start past).supply x (wish k start ask past))
 
-    -- denied
-    pub up_quiet : (fault : ServerFault) → IsUp k start (request s reading (Err fault) (latest start past) ∷ past) u
-    up_quiet fault =
-        record {
-          lit = still_lit;
-          agrees = inv.agrees;
-          form = inv.form;
-          kept = inv.kept;
-          eight = inv.eight;
-          nexts = inv.nexts;
-          series = λ t l.
-              series_quiet k start past s reading asks_nothing fault (latest start past) t (end_in k start (latest start past) t) (inv.series t l);
-          tops = omega (arith, inv.tops, writes-none k start past s reading asks_nothing (Err fault) (latest start past));
-        }
+  -- a series that it gives no rank stays in order
+  pub series_quiet : {s end : ℕ} → Series k start past s end → GivesNone s (told event) → Series k start (event ∷ past) s end
+  series_quiet {s} inv none = series_kept inv event none (standing_none s None)
 
-    pub laws_quiet :
-        (fault : ServerFault) → (s < 8 → (floor : Rank) → k.floor reading ≡ Some floor → Ground k start s reading past) →
-        (fault ≡ AboveTop → s < 8) → RequestLaws k start s reading (Err fault) (latest start past) past
-    laws_quiet fault ground known =
-        record {
-          touches = touches_none k start past s reading asks_nothing;
-          rising = λ x e. err_not_ok fault x e;
-          loses = λ x e. err_not_ok fault x e;
-          loses_above = λ e.
-              within_loss k start past s (end_in k start (latest start past) s) reading (inv.series s (known (let same : fault ≡ AboveTop = cc in same)));
-          denied = λ l floor e _. ground l floor e;
-          denies = λ l floor e _. (fault, refl);
-          lasts = numbers_last (top_record k start past) (writes k start past) inv.tops;
-          hi_lo = λ zeros x e. err_not_ok fault x e;
-        }
+  -- a server that is up stays up, with the blocks in hand after it
+  pub up_quiet :
+      {u : Up} → IsUp k start past u → (blocks : List Block) → length blocks ≡ 8 →
+      ((s : ℕ) → s < 8 → next_at (record { ring = u.ring; blocks = blocks }) s ≡ next k start s (event ∷ past)) →
+      ((s : ℕ) → s < 8 → end_at (record { ring = u.ring; blocks = blocks }) s ≡ end_in k start (latest start past) s) →
+      ((s : ℕ) → s < 8 → Series k start (event ∷ past) s (end_in k start (latest start past) s)) →
+      IsUp k start (event ∷ past) (record { ring = u.ring; blocks = blocks })
+  up_quiet inv blocks eight are ends series =
+      let wants : wanted k start ask past ≡ [] = sym (cond-false (dark k start past) [] (wanted k start ask past) inv.lit) ∙ q.nothing in
+      record {
+        lit =
+            dark_is k start past event ask q.is
+            ∙ or_from (dark k start past) (too_little (latest start past).supply (wanted k start ask past)) inv.lit
+            (ap (too_little (latest start past).supply) wants ∙ le-ltb (latest start past).supply 0 (omega arith));
+        agrees = rw q.here inv.agrees;
+        form = inv.form;
+        kept = rw q.here inv.kept;
+        eight = eight;
+        nexts = are;
+        ends = λ s l. rw q.here (ends s l);
+        series = λ s l. rw q.here (series s l);
+        tops = rw (q.here, writes_none) inv.tops;
+      }
+
+-- while the server is up, a call that wants no write is such a one
+pub asked_lit : {k : Numbering} {start : Meaning} {past : List Event} {u : Up} → IsUp k start past u → (ask : Ask) → asked k start ask past ≡ wanted k start ask past
+asked_lit {k} {start} {past} inv ask = cond-false (dark k start past) [] (wanted k start ask past) inv.lit

@@ -6,13 +6,15 @@ use Rattle.record.specs.declared.numbers.Reading.{Reading}
 use Rattle.record.specs.declared.numbers.Sequence.{Sequence}
 use Rattle.disk.specs.Meaning.{Meaning, count}
 use Rattle.disk.specs.Memory.{IsSize}
+use Rattle.disk.specs.Moves.{Moves}
 use Rattle.kind.specs.Meaning.{Numbering, LawfulKind}
+use Rattle.ring.specs.Operations.{Chain}
 use Rattle.server.specs.History.{Event, request, cut}
-use Rattle.server.specs.Promise.{Obeys, Reached, begun, gave, was_cut}
-use Rattle.server.specs.Rules.{Gave, WasCut, woken}
+use Rattle.server.specs.Promise.{Obeys, Reached, GoesOver, begun, gave, was_cut}
+use Rattle.server.specs.Rules.{one, Gave, WasCut, tries, woken}
 use Rattle.server.specs.declared.fault.ServerFault.{ServerFault}
 use Rattle.server.specs.declared.state.State.{State}
-use Rattle.history.specs.Made.{call_of, turns_of, Takes, TakesAll, Made, Served, Ran}
+use Rattle.history.specs.Made.{call_of, turns_of, Made, Served, Ran}
 use Rattle.history.specs.declared.calls.Answer.{Answer}
 use Rattle.history.specs.declared.calls.Answer.TheVariants.{Give as AnswerGive, Cut as AnswerCut}
 use Rattle.history.specs.declared.calls.Call.{Call}
@@ -21,38 +23,37 @@ use Rattle.history.specs.declared.calls.Turn.{Turn}
 use Rattle.history.proofs.Obeys.{every_history_obeys}
 
 -- one call more, from one disk to another
-module _ {D : Type 0} (meaning : D → Meaning) (after_cut : D → ℕ → ℕ → Meaning) (disk disk' : D) (k : Numbering) (start : Meaning) (past : List Event) (state after : State) (reached : Reached k start past state (meaning disk)) (call : Call) where
+module _ {D : Type 0} (moves : Moves D) (meaning : D → Meaning) (k : Numbering) (first : D) (past : List Event) (state after : State) (d d' : D) (reached : Reached moves meaning k first past state d) (call : Call) where
   pub request_made :
-      (s : ℕ) (reading : Reading) (answer : Result Identifier ServerFault) → call ≡ Give s reading → Gave k state (meaning disk) s reading answer after (meaning disk') →
-      Made k start past call (AnswerGive answer) (Takes meaning after_cut disk disk') after (meaning disk')
-  request_made s reading answer is did =
-      record { event = request s reading answer (meaning disk'); asked = sym is; answered = refl; goes = (refl, tt); reached = gave reached did }
+      (s : ℕ) (reading : Reading) (answer : Result Identifier ServerFault) → call ≡ Give s reading → Gave k state (meaning d) s reading answer after (meaning d') →
+      Chain moves d (tries k state (meaning d) (one s reading)) d' →
+      Made moves meaning k first past call (AnswerGive answer) after d'
+  request_made s reading answer is did chain =
+      record { event = request s reading answer (meaning d'); asked = sym is; answered = refl; reached = gave reached did chain }
 
   pub cut_made :
-      (tear supply : ℕ) (answer : Result Sequence ServerFault) → call ≡ Cut tear supply → WasCut k (meaning disk) supply answer after (meaning disk') →
-      meaning disk' ≡ after_cut disk tear supply →
-      Made k start past call (AnswerCut answer) (Takes meaning after_cut disk disk') after (meaning disk')
-  cut_made tear supply answer is did exact =
-      record { event = cut tear supply answer (meaning disk'); asked = sym is; answered = refl; goes = (refl, exact); reached = was_cut reached did }
+      (tear supply : ℕ) (answer : Result Sequence ServerFault) → call ≡ Cut tear supply → WasCut k (meaning d) supply answer after (meaning d') →
+      moves.cuts d tear supply d' →
+      Made moves meaning k first past call (AnswerCut answer) after d'
+  cut_made tear supply answer is did cuts =
+      record { event = cut tear supply answer (meaning d'); asked = sym is; answered = refl; reached = was_cut reached did cuts }
 
 -- turns under way: those so far are answered
-pub record Serving (k : Numbering) (start : Meaning) (past : List Event) (turns : List Turn) (takes : List Event → Type 0) (state : State) (m : Meaning) : Type 0 where
+pub record Serving {D : Type 0} (moves : Moves D) (meaning : D → Meaning) (k : Numbering) (first : D) (past : List Event) (turns : List Turn) (state : State) (d : D) : Type 0 where
   pub events : List Event
   pub answered : turns ≡ turns_of events
-  pub goes : takes events
-  pub reached : Reached k start (events ++ past) state m
+  pub reached : Reached moves meaning k first (events ++ past) state d
 
 -- one more, by what a call extends, of a kind that stayed
 pub serving_step :
-    {k k' : Numbering} {start : Meaning} {past : List Event} {turns turns' : List Turn} {takes takes' : List Event → Type 0} {one : Event → Type 0} {state : State} {m : Meaning} {call : Call} {answer : Answer} {after : State} {m' : Meaning} →
+    {D : Type 0} {moves : Moves D} {meaning : D → Meaning} {k k' : Numbering} {first : D} {past : List Event} {turns turns' : List Turn} {state : State} {d : D} {call : Call} {answer : Answer} {after : State} {d' : D} →
     k' ≡ k → turns' ≡ turns ++ (record { call = call; answer = Some answer } ∷ []) →
-    ((event : Event) (events : List Event) → takes events → one event → takes' (event ∷ events)) →
-    ((begin : Meaning) (h : List Event) → Reached k' begin h state m → Made k' begin h call answer one after m') →
-    Serving k start past turns takes state m → Serving k start past turns' takes' after m'
-serving_step {k} {k'} {start} {past} {turns} {turns'} {takes} {takes'} {one} {state} {m} {call} {answer} {after} {m'} same more joins extends so_far =
-    let extends_k : (begin : Meaning) (h : List Event) → Reached k begin h state m → Made k begin h call answer one after m' =
-    subst (λ (x : Numbering). (begin : Meaning) (h : List Event) → Reached x begin h state m → Made x begin h call answer one after m') same extends in
-    let made = extends_k start (so_far.events ++ past) so_far.reached in
+    ((begin : D) (h : List Event) → Reached moves meaning k' begin h state d → Made moves meaning k' begin h call answer after d') →
+    Serving moves meaning k first past turns state d → Serving moves meaning k first past turns' after d'
+serving_step {D} {moves} {meaning} {k} {k'} {first} {past} {turns} {turns'} {state} {d} {call} {answer} {after} {d'} same more extends so_far =
+    let extends_k : (begin : D) (h : List Event) → Reached moves meaning k begin h state d → Made moves meaning k begin h call answer after d' =
+    subst (λ (x : Numbering). (begin : D) (h : List Event) → Reached moves meaning x begin h state d → Made moves meaning x begin h call answer after d') same extends in
+    let made = extends_k first (so_far.events ++ past) so_far.reached in
     record {
       events = made.event ∷ so_far.events;
       answered =
@@ -60,16 +61,8 @@ serving_step {k} {k'} {start} {past} {turns} {turns'} {takes} {takes'} {one} {st
           ∙ ap (λ (x : List Turn). x ++ (record { call = call; answer = Some answer } ∷ [])) so_far.answered
           ∙ ap (λ (x : Call). turns_of so_far.events ++ (record { call = x; answer = Some answer } ∷ [])) (sym made.asked)
           ∙ ap (λ (x : Answer). turns_of so_far.events ++ (record { call = call_of made.event; answer = Some x } ∷ [])) (sym made.answered);
-      goes = joins made.event so_far.events so_far.goes made.goes;
       reached = made.reached;
     }
-
--- one event more takes the disk further
-module _ {D : Type 0} (meaning : D → Meaning) (after_cut : D → ℕ → ℕ → Meaning) (disk between disk' : D) where
-  pub taken_further :
-      (event : Event) (events : List Event) → TakesAll meaning after_cut disk between events → Takes meaning after_cut between disk' event →
-      TakesAll meaning after_cut disk disk' (event ∷ events)
-  taken_further event events all one = (between, all, one)
 
 -- once the loop is through, all turns have their calls
 pub all_calls :
@@ -81,43 +74,40 @@ all_calls items turns i items_in turns_in e =
 
 -- the theorem says what all of them obey
 pub served :
-    {k : Numbering} {start : Meaning} {past : List Event} {turns made : List Turn} {takes : List Event → Type 0} {state : State} {m : Meaning} → LawfulKind k →
-    map (λ turn. turn.call) made ≡ map (λ turn. turn.call) turns → Serving k start past made takes state m →
-    Served k start past turns made takes state m
-served {k} {start} {past} {turns} {made} {takes} {state} {m} lawful asked so_far =
+    {D : Type 0} {moves : Moves D} {meaning : D → Meaning} {k : Numbering} {first : D} {past : List Event} {turns made : List Turn} {state : State} {d : D} → LawfulKind k →
+    map (λ turn. turn.call) made ≡ map (λ turn. turn.call) turns → Serving moves meaning k first past made state d →
+    Served moves meaning k first past turns made state d
+served {D} {moves} {meaning} {k} {first} {past} {turns} {made} {state} {d} lawful asked so_far =
     record {
       events = so_far.events;
       asked = asked;
       answered = so_far.answered;
-      goes = so_far.goes;
       reached = so_far.reached;
-      obeys = λ without. every_history_obeys k start (so_far.events ++ past) state m lawful without so_far.reached;
+      obeys = λ without. every_history_obeys moves meaning k first (so_far.events ++ past) state d lawful without so_far.reached;
     }
 
 -- a server that was just put together
-pub begun-at : (k : Numbering) (start : Meaning) (state : State) (m : Meaning) → state ≡ woken k start → m ≡ start → Reached k start [] state m
-begun-at k start state m is same =
-    subst (λ (x : State). Reached k start [] x m) (sym is) (subst (λ (x : Meaning). Reached k start [] (woken k start) x) (sym same) begun)
+pub begun-at : {D : Type 0} (moves : Moves D) (meaning : D → Meaning) (k : Numbering) (first : D) (state : State) (d : D) → state ≡ woken k (meaning first) → d ≡ first → Reached moves meaning k first [] state d
+begun-at moves meaning k first state d is same =
+    subst (λ (x : State). Reached moves meaning k first [] x d) (sym is) (subst (λ x. Reached moves meaning k first [] (woken k (meaning first)) x) (sym same) begun)
 
 -- what a list of calls on it promises
 pub ran :
-    {k k' : Numbering} {start : Meaning} {turns made : List Turn} {takes takes' : List Event → Type 0} {state after : State} {m m' : Meaning} → IsSize (count start) → k' ≡ k →
-    ((events : List Event) → takes events → takes' events) →
-    ((begin : Meaning) (h : List Event) → Reached k' begin h state m → Served k' begin h turns made takes after m') →
-    Reached k start [] state m → Ran k start turns made takes' after m'
-ran {k} {k'} {start} {turns} {made} {takes} {takes'} {state} {after} {m} {m'} sized same moved promise reached =
-    let promise_k : (begin : Meaning) (h : List Event) → Reached k begin h state m → Served k begin h turns made takes after m' =
-    subst (λ (x : Numbering). (begin : Meaning) (h : List Event) → Reached x begin h state m → Served x begin h turns made takes after m') same promise in
-    let all = promise_k start [] reached in
+    {D : Type 0} {moves : Moves D} {meaning : D → Meaning} {k k' : Numbering} {first : D} {turns made : List Turn} {state after : State} {d d' : D} → IsSize (count (meaning first)) → k' ≡ k →
+    ((begin : D) (h : List Event) → Reached moves meaning k' begin h state d → Served moves meaning k' begin h turns made after d') →
+    Reached moves meaning k first [] state d → Ran moves meaning k first turns made after d'
+ran {D} {moves} {meaning} {k} {k'} {first} {turns} {made} {state} {after} {d} {d'} sized same promise reached =
+    let promise_k : (begin : D) (h : List Event) → Reached moves meaning k begin h state d → Served moves meaning k begin h turns made after d' =
+    subst (λ (x : Numbering). (begin : D) (h : List Event) → Reached moves meaning x begin h state d → Served moves meaning x begin h turns made after d') same promise in
+    let all = promise_k first [] reached in
     let whole : all.events ++ [] ≡ all.events = append-nil all.events in
     record {
       history = all.events;
       asked = all.asked;
       answered = all.answered;
-      goes = moved all.events all.goes;
-      reached = subst (λ (x : List Event). Reached k start x after m') whole all.reached;
+      reached = subst (λ (x : List Event). Reached moves meaning k first x after d') whole all.reached;
       obeys = λ unwritten.
-          subst (Obeys k start) whole
+          subst (λ (x : List Event). Obeys k (meaning first) x × GoesOver moves meaning k first x d') whole
           (all.obeys (record { least = sized.0; most = sized.1; kept = unwritten.kept; blank = unwritten.blank }));
     }
 

@@ -1,6 +1,7 @@
 -- Waking on sectors that recover.
-use Rattle.std.proofs.Common.{◌≡◌, ℕ, ◌+◌, ◌*◌, ◌<◌, ◌≤◌, Bool, true, false, cond, ◌&&◌, eqb, List, [], ◌∷◌, map, Some, None, Ok, Option, Result, sym, refl, ap, ◌∙◌, subst, ⊎_elim, add-mul, one-mul, zero-mul, arith}
+use Rattle.std.proofs.Common.{◌≡◌, ℕ, ◌<◌, ◌≤◌, true, false, ◌&&◌, eqb, List, [], ◌∷◌, ◌++◌, map, length, Some, None, Ok, Option, Result, sym, refl, ap, ◌∙◌, subst, ⊎_elim, zero-mul, arith}
 use Rattle.std.specs.List.{range_with_len}
+use Rattle.std.proofs.lemmas.List.{get_or-map, length-map}
 use Rattle.std.proofs.lemmas.List.FromFn.{get_or-map-range_with_len, length-map-range_with_len}
 use Rattle.std.proofs.lemmas.Bool.{cases_eq, eq-eqb, ne_eqb, or_parts, cond-false, cond-true}
 use Rattle.record.specs.declared.numbers.Rank.{Rank}
@@ -9,13 +10,15 @@ use Rattle.record.specs.declared.sector.Format.{Format}
 use Rattle.disk.specs.Meaning.{Meaning}
 use Rattle.kind.specs.Meaning.{Numbering, LawfulKind}
 use Rattle.ring.specs.Left.{Recovers, WithoutRecords, end_of}
-use Rattle.ring.specs.Ring.{top, known, known_end, recovered}
+use Rattle.ring.specs.Ring.{top, known, known_end, recovered, Step}
 use Rattle.ring.specs.declared.ring.Ring.{Ring}
 use Rattle.ring.proofs.Cuts.{cut_at_rest}
 use Rattle.ring.proofs.Starts.{blank_recovers, blank_top, blank_end, recovers_answer, recovers_agrees, agrees_recovers, known_end_is}
-use Rattle.server.specs.History.{Event, request, cut, latest, end_in, dark, wanted, asked, writes, stood, too_little, block_to, standing}
+use Rattle.ring.specs.Token.{empty_block}
+use Rattle.ring.specs.declared.token.Block.{Block}
+use Rattle.server.specs.History.{lost, Event, cut, after_of, asks, latest, end_in, wish, wanted, too_little, dark_by, dark, asked, writes, reserved_by, made, cut_from, standing}
 use Rattle.server.specs.Promise.{CutLaws}
-use Rattle.server.specs.Rules.{format, woken, awake, top_told, next_in, WasCut}
+use Rattle.server.specs.Rules.{format, Ask, Range, Wish, draws, woken, awake, top_told, block_in, end_at, next_at, WasCut}
 use Rattle.server.specs.declared.fault.ServerFault.{ServerFault}
 use Rattle.server.specs.declared.state.State.{State}
 use Rattle.server.specs.declared.state.State.TheVariants.{Up as Awake}
@@ -29,7 +32,7 @@ ring_of k start m = record { format = format k start; known = known (format k st
 
 abbrev pub up_of : Numbering → Meaning → Meaning → Up
 up_of k start m =
-    record { ring = ring_of k start m; nexts = map (known_end (known (format k start) m.reading)) (range_with_len 0 8) }
+    record { ring = ring_of k start m; blocks = map empty_block (map (known_end (known (format k start) m.reading)) (range_with_len 0 8)) }
 
 module _ (k : Numbering) (start : Meaning) (m : Meaning) (recovers : Recovers (format k start) m.reading) where
   same_format : format k m ≡ format k start
@@ -48,11 +51,23 @@ module _ (k : Numbering) (start : Meaning) (m : Meaning) (recovers : Recovers (f
   pub tells : top_told (recovered (format k m) m.reading) ≡ Ok (record { 0 = top (format k start) m.reading })
   tells = ap top_told answers
 
-  pub next-woken : (s : ℕ) → s < 8 → (next_in (up_of k start m).nexts s).0 ≡ end_in k start m s
-  next-woken s l =
-      ap (λ (r : Rank). r.0)
-      (get_or-map-range_with_len (known_end (known (format k start) m.reading)) 0 8 s s (record { 0 = 0 }) l (omega arith))
-      ∙ known_end_is (format k start) m.reading s l
+  end-woken : (s : ℕ) → s < 8 → block_in (up_of k start m).blocks s ≡ empty_block (record { 0 = end_in k start m s })
+  end-woken s l =
+      let all : s < length (map (known_end (known (format k start) m.reading)) (range_with_len 0 8)) =
+      rw (length-map-range_with_len (known_end (known (format k start) m.reading)) 0 8) l in
+      get_or-map empty_block (map (known_end (known (format k start) m.reading)) (range_with_len 0 8)) s (record { 0 = 0 }) (empty_block (record { 0 = 0 })) all
+      ∙ ap empty_block
+      (get_or-map-range_with_len (known_end (known (format k start) m.reading)) 0 8 s s (record { 0 = 0 }) l (omega arith)
+      ∙ ap (λ (n : ℕ). rank n) (known_end_is (format k start) m.reading s l))
+    where
+      rank : ℕ → Rank
+      rank n = record { 0 = n }
+
+  pub next-woken : (s : ℕ) → s < 8 → next_at (up_of k start m) s ≡ end_in k start m s
+  next-woken s l = ap (λ (b : Block). b.next.0) (end-woken s l)
+
+  pub last-woken : (s : ℕ) → s < 8 → end_at (up_of k start m) s ≡ end_in k start m s
+  last-woken s l = ap (λ (b : Block). b.end.0) (end-woken s l)
 
 -- put together on a disk without records
 module _ (k : Numbering) (start : Meaning) (lawful : LawfulKind k) (without : WithoutRecords start) where
@@ -62,14 +77,15 @@ module _ (k : Numbering) (start : Meaning) (lawful : LawfulKind k) (without : Wi
   start_series : (s : ℕ) → Series k start [] s (end_in k start start s)
   start_series s =
       let z = blank_end (format k start) start s without in
-      let none = zero-mul k.block in
+      let none = zero-mul (lost k []) in
+      let no_block = zero-mul k.block in
       record {
         low = omega arith;
         inside = omega arith;
         near = omega arith;
         bound = omega arith;
         labelled = tt;
-        counted = λ zeros. (omega arith, omega arith);
+        counted = λ zeros. record { hi = 0; are = refl; reach = omega arith };
       }
 
   pub invariant_begun : Invariant k start [] (woken k start)
@@ -80,31 +96,39 @@ module _ (k : Numbering) (start : Meaning) (lawful : LawfulKind k) (without : Wi
         agrees = recovers_agrees (format k start) start start_recovers;
         form = refl;
         kept = without.kept;
-        eight = length-map-range_with_len (known_end (known (format k start) start.reading)) 0 8;
+        eight = length-map (map (known_end (known (format k start) start.reading)) (range_with_len 0 8)) empty_block ∙ length-map-range_with_len (known_end (known (format k start) start.reading)) 0 8;
         nexts = next-woken k start start start_recovers;
+        ends = last-woken k start start start_recovers;
         series = λ s l. start_series s;
         tops = omega (arith, blank_top (format k start) start without);
       })
 
 -- reservations that were flushed stand, whatever the next cut leaves
+flushed_stands :
+    (k : Numbering) (start : Meaning) (s supply : ℕ) (x y : Option Meaning) (want : Wish) (steps : List Step) → too_little supply steps ≡ false →
+    reserved_by k start s supply x want steps ≡ reserved_by k start s supply y want steps
+flushed_stands k start s supply x y (draws t first n (Some claimed)) (step ∷ steps) enough = rw enough refl
+flushed_stands k start s supply x y want steps enough = refl
+
 pub standing_lit :
     (k : Numbering) (start : Meaning) (s : ℕ) (x y : Option Meaning) (past : List Event) → dark k start past ≡ false →
     standing k start s x past ≡ standing k start s y past
 standing_lit k start s x y [] lit = refl
-standing_lit k start s x y (cut tear supply answer after ∷ past) lit = refl
-standing_lit k start s x y (request t reading answer after ∷ past) lit =
-    let parts = or_parts (dark k start past) (too_little (latest start past).supply (wanted k start t reading past)) lit in
-    let rest = standing_lit k start s x y past parts.0 in
-    let is : asked k start t reading past ≡ wanted k start t reading past =
-    cond-false (dark k start past) [] (wanted k start t reading past) parts.0 in
-    let same : stood k start s (block_to k start t reading past) (latest start past).supply x (asked k start t reading past) ≡ stood k start s (block_to k start t reading past) (latest start past).supply y (asked k start t reading past) =
-    stood_same (block_to k start t reading past) (latest start past).supply (asked k start t reading past) (ap (too_little (latest start past).supply) is ∙ parts.1) in
-    ap (λ (b : Bool). cond (eqb t s && b) (standing k start s x past + 1) (standing k start s x past)) same
-    ∙ ap (λ (n : ℕ). cond (eqb t s && stood k start s (block_to k start t reading past) (latest start past).supply y (asked k start t reading past)) (n + 1) n) rest
+standing_lit k start s x y (event ∷ past) lit = by_asks (asks event) lit (standing_lit k start s x y past)
   where
-    stood_same : (end supply : ℕ) (steps : List Rattle.ring.specs.Ring.Step) → too_little supply steps ≡ false → stood k start s end supply x steps ≡ stood k start s end supply y steps
-    stood_same end supply [] enough = refl
-    stood_same end supply (step ∷ steps) enough = rw enough refl
+    by_asks :
+        (o : Option Ask) → dark_by k start past (dark k start past) o ≡ false →
+        (dark k start past ≡ false → standing k start s x past ≡ standing k start s y past) →
+        made k start s x past o ++ standing k start s (cut_from o (after_of event) x) past
+        ≡ made k start s y past o ++ standing k start s (cut_from o (after_of event) y) past
+    by_asks None lit older = refl
+    by_asks (Some ask) lit older =
+        let m = latest start past in
+        let parts = or_parts (dark k start past) (too_little m.supply (wanted k start ask past)) lit in
+        let is : asked k start ask past ≡ wanted k start ask past = cond-false (dark k start past) [] (wanted k start ask past) parts.0 in
+        let same = flushed_stands k start s m.supply x y (wish k start ask past) (asked k start ask past) (ap (too_little m.supply) is ∙ parts.1) in
+        ap (λ (rs : List Range). rs ++ standing k start s x past) same
+        ∙ ap (λ (rs : List Range). made k start s y past (Some ask) ++ rs) (older parts.0)
 
 -- a cut
 module _ (k : Numbering) (start : Meaning) (past : List Event) (tear supply : ℕ) (answer : Result Sequence ServerFault) (after : State) (m : Meaning) (was : WasCut k (latest start past) supply answer after m) where
@@ -120,8 +144,9 @@ module _ (k : Numbering) (start : Meaning) (past : List Event) (tear supply : �
           agrees = recovers_agrees (format k start) m recovers;
           form = refl;
           kept = was.left.keeps;
-          eight = length-map-range_with_len (known_end (known (format k start) m.reading)) 0 8;
+          eight = length-map (map (known_end (known (format k start) m.reading)) (range_with_len 0 8)) empty_block ∙ length-map-range_with_len (known_end (known (format k start) m.reading)) 0 8;
           nexts = next-woken k start m recovers;
+          ends = last-woken k start m recovers;
           series = series;
           tops = tops;
         }),
@@ -138,49 +163,41 @@ module _ (k : Numbering) (start : Meaning) (past : List Event) (tear supply : �
       (λ s l.
       let i = inv.series s l in
       let e : end_in k start m s ≡ end_in k start (latest start past) s = ap (λ (xs : List (List ℕ)). end_of f xs s) same in
-      series_cut k start past s (end_in k start (latest start past) s) i tear supply answer m
+      series_cut i tear supply answer m
       (omega (arith, i.inside))
       (omega (arith, i.near, i.bound))
-      (λ zeros.
-      let c = i.counted zeros in
-      let st = standing_lit k start s (Some m) None past inv.lit in
-      let h = ap (λ (n : ℕ). n * k.block) st in
-      (omega (arith, c.0), omega (arith, c.1, i.inside))))
+      (λ zeros. rw (e, standing_lit k start s (Some m) None past inv.lit) (i.counted zeros)))
       (omega (arith, inv.tops, ap (top f) same))
 
   -- nothing of the pending reservation stands, as far as series s can tell
   series_fallen : (inv : IsDown k start past) (s : ℕ) → s < 8 → end_in k start m s ≡ end_in k start inv.base s → Series k start (cut tear supply answer m ∷ past) s (end_in k start m s)
   series_fallen inv s l e =
       let i = inv.series s l in
-      let fallen : (eqb inv.pending s && eqb (end_in k start m s) inv.end) ≡ false =
+      let fallen : (eqb inv.pending s && eqb (end_in k start m s) inv.claimed.end) ≡ false =
       ⊎_elim
       (λ own.
-      rw (ne_eqb (end_in k start m s) inv.end (λ h. omega (arith, inv.above, ap (end_in k start inv.base) own)), eq-eqb inv.pending s own) refl)
+      rw (ne_eqb (end_in k start m s) inv.claimed.end (λ h. omega (arith, inv.above, ap (end_in k start inv.base) own)), eq-eqb inv.pending s own) refl)
       (λ other. rw (ne_eqb inv.pending s other) refl)
       (cases_eq inv.pending s) in
       let st : standing k start s (Some m) past ≡ standing k start s None past =
-      inv.stands s m ∙ cond-false (eqb inv.pending s && eqb (end_in k start m s) inv.end) (standing k start s None past + 1) (standing k start s None past) fallen in
-      let h = ap (λ (n : ℕ). n * k.block) st in
-      series_cut k start past s (end_in k start inv.base s) i tear supply answer m
+      inv.stands s m ∙ cond-false (eqb inv.pending s && eqb (end_in k start m s) inv.claimed.end) (inv.claimed ∷ standing k start s None past) (standing k start s None past) fallen in
+      series_cut i tear supply answer m
       (omega (arith, i.inside))
       (omega (arith, i.near, i.bound))
-      (λ zeros. let c = i.counted zeros in (omega (arith, c.0), omega (arith, c.1, i.inside)))
+      (λ zeros. rw (e, st) (i.counted zeros))
 
   -- the pending reservation stands
-  series_stood : (inv : IsDown k start past) → end_in k start m inv.pending ≡ inv.end → Series k start (cut tear supply answer m ∷ past) inv.pending (end_in k start m inv.pending)
+  series_stood : (inv : IsDown k start past) → end_in k start m inv.pending ≡ inv.claimed.end → Series k start (cut tear supply answer m ∷ past) inv.pending (end_in k start m inv.pending)
   series_stood inv e =
       let s = inv.pending in
       let i = inv.series s inv.one_of_eight in
-      let stood_up : (eqb s s && eqb (end_in k start m s) inv.end) ≡ true = rw (eq-eqb s s refl, eq-eqb (end_in k start m s) inv.end e) refl in
-      let st : standing k start s (Some m) past ≡ standing k start s None past + 1 =
-      inv.stands s m ∙ cond-true (eqb s s && eqb (end_in k start m s) inv.end) (standing k start s None past + 1) (standing k start s None past) stood_up in
-      let h = ap (λ (n : ℕ). n * k.block) st in
-      let more = add-mul (standing k start s None past) 1 k.block in
-      let one = one-mul k.block in
-      series_cut k start past s (end_in k start inv.base s) i tear supply answer m
+      let stood_up : (eqb s s && eqb (end_in k start m s) inv.claimed.end) ≡ true = rw (eq-eqb s s refl, eq-eqb (end_in k start m s) inv.claimed.end e) refl in
+      let st : standing k start s (Some m) past ≡ inv.claimed ∷ standing k start s None past =
+      inv.stands s m ∙ cond-true (eqb s s && eqb (end_in k start m s) inv.claimed.end) (inv.claimed ∷ standing k start s None past) (standing k start s None past) stood_up in
+      series_cut i tear supply answer m
       (omega (arith, i.inside, inv.above))
       (omega (arith, inv.most))
-      (λ zeros. let c = inv.counted zeros in (omega (arith, c.0), omega (arith, c.1, inv.above)))
+      (λ zeros. rw (e, st) (inv.counted zeros))
 
   pub cut_while_down : IsDown k start past → Invariant k start (cut tear supply answer m ∷ past) after × CutLaws k start supply answer m past
   cut_while_down inv =

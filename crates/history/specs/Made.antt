@@ -1,10 +1,13 @@
 -- The calls and answers of a history, and what making a list of calls promises.
-use Rattle.std.specs.Prelude.{◌≡◌, ℕ, List, [], ◌∷◌, ◌++◌, map, Some}
+use Rattle.std.specs.Prelude.{◌≡◌, List, [], ◌∷◌, ◌++◌, map, Some}
 use Rattle.disk.specs.Meaning.{Meaning}
+use Rattle.disk.specs.Moves.{Moves}
 use Rattle.kind.specs.Meaning.{Numbering}
 use Rattle.ring.specs.Left.{Unwritten, WithoutRecords}
+use Rattle.ring.specs.Operations.{Chain}
 use Rattle.server.specs.History.{Event, request, cut}
-use Rattle.server.specs.Promise.{Obeys, Reached}
+use Rattle.server.specs.Promise.{Obeys, Reached, GoesOver}
+use Rattle.server.specs.Rules.{one, tries}
 use Rattle.server.specs.declared.state.State.{State}
 use Rattle.history.specs.declared.calls.Answer.{Answer}
 use Rattle.history.specs.declared.calls.Answer.TheVariants.{Give as Gave, Cut as WasCut}
@@ -22,33 +25,19 @@ abbrev pub answer_of : Event → Answer
 answer_of (request s reading answer after) = Gave answer
 answer_of (cut tear supply answer after) = WasCut answer
 
--- a cut leaves of the disk what its tear and its supply leave of it
-abbrev pub Leaves : (ℕ → ℕ → Meaning) → Call → Meaning → Type 0
-Leaves after_cut (Give s reading) m = Unit {0}
-Leaves after_cut (Cut tear supply) m = m ≡ after_cut tear supply
+-- a call on a server takes its disk over to another: by the operations that the request tries, or as a cut
+abbrev pub Takes : {D : Type 0} → Moves D → (D → Meaning) → Numbering → State → D → Call → D → Type 0
+Takes moves meaning k state d (Give s reading) d' = Chain moves d (tries k state (meaning d) (one s reading)) d'
+Takes moves meaning k state d (Cut tear supply) d' = moves.cuts d tear supply d'
 
--- the disk's meaning after an event
-abbrev pub after_of : Event → Meaning
-after_of (request s reading answer after) = after
-after_of (cut tear supply answer after) = after
-
-module _ {D : Type 0} (meaning : D → Meaning) (after_cut : D → ℕ → ℕ → Meaning) where
-  -- an event takes a disk over to another: that is as the event tells, and after a cut as its tear and its supply leave it
-  abbrev pub Takes : D → D → Event → Type 0
-  Takes disk disk' event = (meaning disk' ≡ after_of event) × Leaves (after_cut disk) (call_of event) (meaning disk')
-
-  -- so do events, one after the other, the newest first
-  abbrev pub TakesAll : D → D → List Event → Type 0
-  TakesAll disk disk' [] = disk' ≡ disk
-  TakesAll disk disk' (event ∷ past) = (between : D) × TakesAll disk between past × Takes between disk' event
-
--- one call more
-pub record Made (k : Numbering) (start : Meaning) (past : List Event) (call : Call) (answer : Answer) (takes : Event → Type 0) (state : State) (m : Meaning) : Type 0 where
-  pub event : Event
-  pub asked : call_of event ≡ call
-  pub answered : answer_of event ≡ answer
-  pub goes : takes event
-  pub reached : Reached k start (event ∷ past) state m
+-- what calls on a disk from the first on make, by its own relations
+module _ {D : Type 0} (moves : Moves D) (meaning : D → Meaning) (k : Numbering) (first : D) where
+  -- one call more
+  pub record Made (past : List Event) (call : Call) (answer : Answer) (state : State) (d : D) : Type 0 where
+    pub event : Event
+    pub asked : call_of event ≡ call
+    pub answered : answer_of event ≡ answer
+    pub reached : Reached moves meaning k first (event ∷ past) state d
 
 -- the turn of an event: its call with its answer
 abbrev pub turn_of : Event → Turn
@@ -59,21 +48,20 @@ abbrev pub turns_of : List Event → List Turn
 turns_of [] = []
 turns_of (event ∷ past) = turns_of past ++ (turn_of event ∷ [])
 
--- the calls of these turns, made: each is answered, the history with their events is reached, and obeys the laws where it began on
--- a disk without records
-pub record Served (k : Numbering) (start : Meaning) (past : List Event) (turns after : List Turn) (takes : List Event → Type 0) (state : State) (m : Meaning) : Type 0 where
-  pub events : List Event
-  pub asked : map (λ turn. turn.call) after ≡ map (λ turn. turn.call) turns
-  pub answered : after ≡ turns_of events
-  pub goes : takes events
-  pub reached : Reached k start (events ++ past) state m
-  pub obeys : WithoutRecords start → Obeys k start (events ++ past)
+module _ {D : Type 0} (moves : Moves D) (meaning : D → Meaning) (k : Numbering) (first : D) where
+  -- the calls of these turns, made: each is answered, the history with their events is reached, and obeys the laws where it
+  -- began on a disk without records
+  pub record Served (past : List Event) (turns after : List Turn) (state : State) (d : D) : Type 0 where
+    pub events : List Event
+    pub asked : map (λ turn. turn.call) after ≡ map (λ turn. turn.call) turns
+    pub answered : after ≡ turns_of events
+    pub reached : Reached moves meaning k first (events ++ past) state d
+    pub obeys : WithoutRecords (meaning first) → Obeys k (meaning first) (events ++ past) × GoesOver moves meaning k first (events ++ past) d
 
--- all calls since a server was put together on a disk
-pub record Ran (k : Numbering) (start : Meaning) (turns after : List Turn) (takes : List Event → Type 0) (state : State) (m : Meaning) : Type 0 where
-  pub history : List Event
-  pub asked : map (λ turn. turn.call) after ≡ map (λ turn. turn.call) turns
-  pub answered : after ≡ turns_of history
-  pub goes : takes history
-  pub reached : Reached k start history state m
-  pub obeys : Unwritten start → Obeys k start history
+  -- all calls since a server was put together on a disk
+  pub record Ran (turns after : List Turn) (state : State) (d : D) : Type 0 where
+    pub history : List Event
+    pub asked : map (λ turn. turn.call) after ≡ map (λ turn. turn.call) turns
+    pub answered : after ≡ turns_of history
+    pub reached : Reached moves meaning k first history state d
+    pub obeys : Unwritten (meaning first) → Obeys k (meaning first) history × GoesOver moves meaning k first history d

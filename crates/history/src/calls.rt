@@ -1,9 +1,8 @@
 // Calls on a server, one after the other, and what none of them can make false.
 ghost use Rattle.std.specs.Prelude.{◌≡◌, List, map};
-ghost use Rattle.disk.specs.Meaning.{Meaning};
 ghost use Rattle.server.specs.History.{Event};
 ghost use Rattle.server.specs.Promise.{Reached, EveryHistoryObeys};
-ghost use Rattle.history.specs.Made.{Leaves, Takes, TakesAll, Made, Served, Ran};
+ghost use Rattle.history.specs.Made.{Takes, Made, Served, Ran};
 
 use disk::Disk;
 use kind::Kind;
@@ -29,9 +28,9 @@ pub enum Answer {
 #[tactic(auto, using(crate::proofs::Obeys::every_history_obeys, crate::proofs::Serves::request_made, crate::proofs::Serves::cut_made))]
 pub fn make<D: Disk, K: Kind>(server: &mut Server<D, K>, call: Call) -> Answer
     ensures kind { server.new.kind ≡ server.old.kind }
-    ensures extends { (start : Meaning) (past : List Event) → Reached (K.numbering server.old.kind) start past server.old.state (D.meaning server.old.disk) → Made (K.numbering server.old.kind) start past call result (Takes D.meaning D.after_cut server.old.disk server.new.disk) server.new.state (D.meaning server.new.disk) }
-    ensures cut { Leaves (D.after_cut server.old.disk) call (D.meaning server.new.disk) }
-    ensures promise { EveryHistoryObeys }
+    ensures extends { (first : D) (past : List Event) → Reached D.moves D.meaning (K.numbering server.old.kind) first past server.old.state server.old.disk → Made D.moves D.meaning (K.numbering server.old.kind) first past call result server.new.state server.new.disk }
+    ensures takes { Takes D.moves D.meaning (K.numbering server.old.kind) server.old.state server.old.disk call server.new.disk }
+    ensures promise { EveryHistoryObeys D.moves D.meaning }
 {
     match call {
         Call::Give { series, reading } => Answer::Give(server.give(series, reading)),
@@ -50,7 +49,7 @@ pub struct Turn {
 pub fn serve<D: Disk, K: Kind>(server: &mut Server<D, K>, turns: &mut [Turn])
     ensures kind { server.new.kind ≡ server.old.kind }
     ensures calls { map (λ turn. turn.call) turns.new ≡ map (λ turn. turn.call) turns.old }
-    ensures promise { (start : Meaning) (past : List Event) → Reached (K.numbering server.old.kind) start past server.old.state (D.meaning server.old.disk) → Served (K.numbering server.old.kind) start past turns.old turns.new (TakesAll D.meaning D.after_cut server.old.disk server.new.disk) server.new.state (D.meaning server.new.disk) }
+    ensures promise { (first : D) (past : List Event) → Reached D.moves D.meaning (K.numbering server.old.kind) first past server.old.state server.old.disk → Served D.moves D.meaning (K.numbering server.old.kind) first past turns.old turns.new server.new.state server.new.disk }
 {
     // A loop, since each call changes the server: of what a closure changes a chain tells nothing.
     for turn in turns {
@@ -61,7 +60,7 @@ pub fn serve<D: Disk, K: Kind>(server: &mut Server<D, K>, turns: &mut [Turn])
 // Puts a server together on a disk, makes the calls of the turns in their order, and gives the server back.
 pub fn run<D: Disk, K: Kind>(disk: D, kind: K, turns: &mut [Turn]) -> Server<D, K>
     ensures kind { result.kind ≡ kind }
-    ensures promise { Ran (K.numbering kind) (D.meaning disk) turns.old turns.new (TakesAll D.meaning D.after_cut disk result.disk) result.state (D.meaning result.disk) }
+    ensures promise { Ran D.moves D.meaning (K.numbering kind) disk turns.old turns.new result.state result.disk }
 {
     let mut server = Server::new(disk, kind);
     serve(&mut server, turns);

@@ -1,6 +1,9 @@
 pub mod Carries
+pub mod Chains
 pub mod Cuts
+pub mod Determined
 pub mod Knows
+pub mod LastChains
 pub mod Leaves
 pub mod Recovers
 pub mod Reserves

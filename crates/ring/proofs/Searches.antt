@@ -12,7 +12,7 @@ use Rattle.disk.specs.declared.fault.Cause.TheVariants.{Dark}
 use Rattle.disk.specs.declared.fault.DiskFault.{DiskFault}
 use Rattle.disk.specs.declared.fault.Operation.{Operation}
 use Rattle.disk.specs.declared.fault.Operation.TheVariants.{Write, Flush}
-use Rattle.ring.specs.Operations.{Op, put, settle, Went, performed, outcome, Writes}
+use Rattle.ring.specs.Operations.{Op, put, settle, Went, performed, tried, outcome, Writes}
 use Rattle.ring.specs.Ring.{top, live, gap, carried, next, with_record, known, live_of, known_gap, next_of, with_noted, reserving, carrying, first_then, plan, Agrees, Step}
 use Rattle.ring.specs.Search.{Continues, Cleared, Stopped, MaySearch}
 use Rattle.ring.specs.declared.fault.RingFault.TheVariants.{Interrupted}
@@ -191,12 +191,20 @@ module _ (s : ℕ) (whole : Meaning) (r : Ring) (m : Meaning) (search : Searchin
           ∙ ap (λ (p : ℕ). outcome value (carrying r.format m.reading q ∷ plan r.format fuel s end (with_record r.format m.reading new)) p) spent
           ∙ ap (λ (steps : List Step). outcome value steps m'.supply) (now_left end)
 
-      ops_on : (end : ℕ) → performed r.format (plan r.format (top r.format whole.reading + 7 - top r.format m.reading) s end m.reading) m.supply ≡ put (gap r.format m.reading) (encoded r.format.tag new) ∷ settle ∷ performed r.format (plan r.format (top r.format whole.reading + 7 - top r.format m'.reading) s end m'.reading) m'.supply
+      ops_on : (end : ℕ) → performed r.format (plan r.format (top r.format whole.reading + 7 - top r.format m.reading) s end m.reading) m.supply ≡ put (gap r.format m.reading) (encoded r.format.tag new) ∷ settle (gap r.format m.reading) ∷ performed r.format (plan r.format (top r.format whole.reading + 7 - top r.format m'.reading) s end m'.reading) m'.supply
       unfolding performed
       ops_on end =
           ap (λ (steps : List Step). performed r.format steps m.supply) (carries_left end fuel one_less)
           ∙ ap (λ (p : ℕ). performed r.format (carrying r.format m.reading q ∷ plan r.format fuel s end (with_record r.format m.reading new)) p) spent
-          ∙ ap (λ (steps : List Step). put (gap r.format m.reading) (encoded r.format.tag new) ∷ settle ∷ performed r.format steps m'.supply) (now_left end)
+          ∙ ap (λ (steps : List Step). put (gap r.format m.reading) (encoded r.format.tag new) ∷ settle (gap r.format m.reading) ∷ performed r.format steps m'.supply) (now_left end)
+
+      -- the same of the operations that are tried
+      pub tried_on : (end : ℕ) → tried r.format (plan r.format (top r.format whole.reading + 7 - top r.format m.reading) s end m.reading) m.supply ≡ put (gap r.format m.reading) (encoded r.format.tag new) ∷ settle (gap r.format m.reading) ∷ tried r.format (plan r.format (top r.format whole.reading + 7 - top r.format m'.reading) s end m'.reading) m'.supply
+      unfolding tried
+      tried_on end =
+          ap (λ (steps : List Step). tried r.format steps m.supply) (carries_left end fuel one_less)
+          ∙ ap (λ (p : ℕ). tried r.format (carrying r.format m.reading q ∷ plan r.format fuel s end (with_record r.format m.reading new)) p) spent
+          ∙ ap (λ (steps : List Step). put (gap r.format m.reading) (encoded r.format.tag new) ∷ settle (gap r.format m.reading) ∷ tried r.format steps m'.supply) (now_left end)
 
       pub search_goes_on : Searching r.format s whole r' m'
       search_goes_on =
@@ -220,6 +228,12 @@ module _ (s : ℕ) (whole : Meaning) (r : Ring) (m : Meaning) (search : Searchin
     module _ (fault : DiskFault) (answer : answer_of Write m (known_gap r) ≡ Err fault) where
       at_write : (m.supply ≡ 0) × (fault ≡ denied Dark Write (gap r.format m.reading))
       at_write = grind arith
+
+      pub tried_at_write : (end : ℕ) → tried r.format (plan r.format (top r.format whole.reading + 7 - top r.format m.reading) s end m.reading) m.supply ≡ put (gap r.format m.reading) (encoded r.format.tag new) ∷ []
+      unfolding tried
+      tried_at_write end =
+          ap (λ (steps : List Step). tried r.format steps m.supply) (carries_left end fuel one_less)
+          ∙ ap (tried r.format (carrying r.format m.reading q ∷ plan r.format fuel s end (with_record r.format m.reading new))) at_write.0
 
       pub stops_at_write : Stopped r.format s whole (Interrupted (record { work = Carry q.series; fault = fault })) r m
       unfolding outcome performed
@@ -254,6 +268,12 @@ module _ (s : ℕ) (whole : Meaning) (r : Ring) (m : Meaning) (search : Searchin
 
       put_last : Wrote m (gap r.format m.reading) (encoded r.format.tag new) m'
       put_last = grind arith
+
+      pub tried_at_flush : (end : ℕ) → tried r.format (plan r.format (top r.format whole.reading + 7 - top r.format m.reading) s end m.reading) m.supply ≡ put (gap r.format m.reading) (encoded r.format.tag new) ∷ settle (gap r.format m.reading) ∷ []
+      unfolding tried
+      tried_at_flush end =
+          ap (λ (steps : List Step). tried r.format steps m.supply) (carries_left end fuel one_less)
+          ∙ ap (tried r.format (carrying r.format m.reading q ∷ plan r.format fuel s end (with_record r.format m.reading new))) last_one
 
       pub stops_at_flush : Stopped r.format s whole (Interrupted (record { work = Carry q.series; fault = fault })) r' m'
       unfolding outcome performed

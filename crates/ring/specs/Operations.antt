@@ -3,7 +3,10 @@ use Rattle.std.specs.Prelude.{◌≡◌, ℕ, zero, suc, ◌⊎◌, List, [], �
 use Rattle.record.specs.Sector.{encoded}
 use Rattle.record.specs.declared.numbers.Rank.{Rank}
 use Rattle.record.specs.declared.sector.Format.{Format}
+use Rattle.disk.specs.Devices.{Stands, after_write, after_flush}
+use Rattle.disk.specs.Holding.{Holding}
 use Rattle.disk.specs.Meaning.{Meaning, Wrote, Flushed, denied, answer_of}
+use Rattle.disk.specs.Moves.{Moves}
 use Rattle.disk.specs.declared.fault.Cause.TheVariants.{Dark}
 use Rattle.disk.specs.declared.fault.DiskFault.{DiskFault}
 use Rattle.disk.specs.declared.fault.Operation.{Operation}
@@ -14,20 +17,38 @@ use Rattle.ring.specs.declared.fault.RingFault.TheVariants.{Interrupted as Stopp
 use Rattle.ring.specs.declared.ring.Ring.{Ring}
 use Rattle.ring.specs.declared.token.Reserved.{Reserved}
 
--- an operation that succeeds: a write of bytes into a sector, or a flush
+-- an operation: a write of bytes into a sector, or a flush of a sector
 pub data Op : Type 0 where
   put : ℕ → List ℕ → Op
-  settle : Op
+  settle : ℕ → Op
 
 -- what an operation does to the meaning
 abbrev pub Does : Meaning → Op → Meaning → Type 0
 Does m (put i bytes) after = Wrote m i bytes after
-Does m settle after = Flushed m after
+Does m (settle i) after = Flushed m after
 
 -- the meaning goes over by these operations, in their order, and by no other
 abbrev pub Went : Meaning → List Op → Meaning → Type 0
 Went m [] after = after ≡ m
 Went m (op ∷ ops) after = (between : Meaning) × Does m op between × Went between ops after
+
+-- by a disk's own relations
+module _ {D : Type 0} (moves : Moves D) where
+  -- what a tried operation makes of one disk into another
+  abbrev pub Move : D → Op → D → Type 0
+  Move d (put i bytes) d' = moves.writes d i bytes d'
+  Move d (settle i) d' = moves.flushes d i d'
+
+  -- the disk goes over by trying these operations, in their order, and by nothing else
+  abbrev pub Chain : D → List Op → D → Type 0
+  Chain d [] d' = d' ≡ d
+  Chain d (op ∷ ops) d' = (between : D) × Move d op between × Chain between ops d'
+
+-- how a disk over memory stands once these operations were tried
+abbrev pub after_tries : {H : Type 0} → Holding H → Stands H → List Op → Stands H
+after_tries w x [] = x
+after_tries w x (put i bytes ∷ ops) = after_tries w (after_write w x i bytes) ops
+after_tries w x (settle i ∷ ops) = after_tries w (after_flush w x i) ops
 
 -- the operations of these writes that succeed with so much supply: each write is followed by a flush
 unfoldable pub performed : Format → List Step → ℕ → List Op
@@ -35,13 +56,26 @@ performed f [] supply = []
 performed f (step ∷ steps) zero = []
 performed f (step ∷ steps) (suc zero) = put step.sector (encoded f.tag step.entry) ∷ []
 performed f (step ∷ steps) (suc (suc supply)) =
-    put step.sector (encoded f.tag step.entry) ∷ settle ∷ performed f steps supply
+    put step.sector (encoded f.tag step.entry) ∷ settle step.sector ∷ performed f steps supply
+
+-- the operations of these writes that are tried with so much supply: those that succeed, and the one that is denied
+unfoldable pub tried : Format → List Step → ℕ → List Op
+tried f [] supply = []
+tried f (step ∷ steps) zero = put step.sector (encoded f.tag step.entry) ∷ []
+tried f (step ∷ steps) (suc zero) = put step.sector (encoded f.tag step.entry) ∷ settle step.sector ∷ []
+tried f (step ∷ steps) (suc (suc supply)) =
+    put step.sector (encoded f.tag step.entry) ∷ settle step.sector ∷ tried f steps supply
+
+-- one write of them, by what it answered: its flush is tried where it succeeded
+abbrev pub write_and_flush : ℕ → List ℕ → Result (Unit {0}) DiskFault → List Op
+write_and_flush i bytes (Ok done) = put i bytes ∷ settle i ∷ []
+write_and_flush i bytes (Err fault) = put i bytes ∷ []
 
 -- how many of these operations are writes
 unfoldable pub writes_in : List Op → ℕ
 writes_in [] = 0
 writes_in (put i bytes ∷ ops) = suc (writes_in ops)
-writes_in (settle ∷ ops) = writes_in ops
+writes_in (settle i ∷ ops) = writes_in ops
 
 -- the current fails at a write or at its flush
 abbrev pub dark : Operation → Step → RingFault

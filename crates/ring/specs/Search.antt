@@ -3,7 +3,8 @@ use Rattle.std.specs.Prelude.{◌≡◌, ℕ, ◌+◌, ◌-◌, ◌^◌, ◌<◌
 use Rattle.record.specs.declared.numbers.Rank.{Rank}
 use Rattle.record.specs.declared.sector.Format.{Format}
 use Rattle.disk.specs.Meaning.{Meaning}
-use Rattle.ring.specs.Operations.{Went, performed, outcome, Writes}
+use Rattle.disk.specs.Moves.{Moves}
+use Rattle.ring.specs.Operations.{Went, performed, tried, outcome, Writes, Chain}
 use Rattle.ring.specs.Ring.{top, carried, plan, reserving, known_gap, Agrees, Step}
 use Rattle.ring.specs.declared.fault.RingFault.{RingFault}
 use Rattle.ring.specs.declared.fault.RingFault.TheVariants.{Series, End, Exhausted}
@@ -35,6 +36,18 @@ pub record Stopped (f : Format) (s : ℕ) (whole : Meaning) (fault : RingFault) 
   pub format : r.format ≡ f
   pub answers : (value : Reserved) (end : ℕ) → outcome value (plan f 7 s end whole.reading) whole.supply ≡ Err fault
   pub goes : (end : ℕ) → Went whole (performed f (plan f 7 s end whole.reading) whole.supply) m
+
+-- by a disk's own relations, from the disk that the whole began with
+module _ {D : Type 0} (moves : Moves D) (meaning : D → Meaning) (f : Format) (s : ℕ) (start : D) where
+  -- the disk has gone over by exactly the operations that the whole tries
+  abbrev pub Tried : ℕ → D → Type 0
+  Tried end d =
+      Chain moves start (tried f (plan f 7 s end (meaning start).reading) (meaning start).supply) d
+
+  -- it has gone so far that with what is left it goes over by exactly those
+  abbrev pub GoesOn : (ℕ → List Step) → D → Type 0
+  GoesOn steps d =
+      (end : ℕ) (after : D) → Chain moves d (tried f (steps end) (meaning d).supply) after → Tried end after
 
 -- a search may begin: the ring agrees with its disk, the series is one of eight, and sequence numbers suffice
 pub record MaySearch (r : Ring) (m : Meaning) (s : ℕ) : Type 0 where

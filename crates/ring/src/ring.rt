@@ -1,18 +1,19 @@
 // The ring over any disk.
-ghost use Rattle.std.specs.Prelude.{◌≡◌, ◌+◌, ◌^◌, ◌<◌, IfOk, IfErr, Some, None, Ok, Err, MatchResult};
+ghost use Rattle.std.specs.Prelude.{◌≡◌, ℕ, [], ◌∷◌, ◌+◌, ◌^◌, ◌<◌, IfOk, IfErr, Some, None, Ok, Err, MatchResult, map};
+ghost use Rattle.ring.specs.Token.{empty_block};
 ghost use Rattle.ring.specs.Left.{end_of, ReservationLaws, TopsCounted};
 ghost use Rattle.ring.specs.Faults.{with_work};
 ghost use Rattle.disk.specs.Meaning.{Meaning, at, count, answer_of, Flushed};
 ghost use Rattle.disk.specs.declared.fault.Operation.TheVariants.{Write};
-ghost use Rattle.ring.specs.Operations.{Writes, Denied};
-ghost use Rattle.ring.specs.Search.{MaySearch, Cleared, Stopped, MayReserve, Begun, Ended, refusal, admitted};
+ghost use Rattle.ring.specs.Operations.{Writes, Denied, Chain, write_and_flush};
+ghost use Rattle.ring.specs.Search.{GoesOn, Tried, MaySearch, Cleared, Stopped, MayReserve, Begun, Ended, refusal, admitted};
 ghost use Rattle.ring.specs.declared.fault.Work.TheVariants.{Carry};
-ghost use Rattle.record.specs.Sector.{content};
-ghost use Rattle.ring.specs.Ring.{named, known_gap, beyond, top, scanned, foreign_below, recovered, known_end, known_ends, Agrees};
+ghost use Rattle.record.specs.Sector.{content, encoded};
+ghost use Rattle.ring.specs.Ring.{named, known_gap, next_of, reserving, beyond, top, scanned, foreign_below, recovered, known_end, known_ends, Agrees};
 
 use crate::fault::{Interrupted, RingFault, Work, during};
 use crate::known::{Claim, Known};
-use crate::token::{Reserved, Unconfirmed, Written};
+use crate::token::{Block, Reserved, Unconfirmed, Written};
 use disk::{Disk, DiskFault, LEAST_SECTORS, MOST_SECTORS};
 use record::{Content, Format, LAST_SEQUENCE, Rank, Record, Sequence, classify, encode};
 
@@ -101,6 +102,13 @@ impl Ring {
         self.known.lives.map(|live| live.end)
     }
 
+    // The blocks of all eight series as a server wakes with them: they are empty.
+    pub fn blocks(&self) -> [Block; 8]
+        ensures { result ≡ map empty_block (known_ends self.now.known) }
+    {
+        self.known.lives.map(|live| Block::empty(live.end))
+    }
+
     // What the sector after the gap holds.
     pub(crate) fn look<D: Disk>(&self, disk: &D) -> Result<Content, DiskFault>
         ensures { Agrees self.now (D.meaning disk.now) → top self.now.format (D.meaning disk.now).reading < 2 ^ 62 → result ≡ Ok (content self.now.format (beyond self.now.format (D.meaning disk.now).reading) (at (D.meaning disk.now).reading (beyond self.now.format (D.meaning disk.now).reading))) }
@@ -128,6 +136,7 @@ impl Ring {
         requires { gap ≡ known_gap self.old }
         ensures answer { result ≡ with_work work (answer_of Write (D.meaning disk.old) (known_gap self.old)) }
         ensures effect { MatchResult result (λ _. Writes self.old (D.meaning disk.old) claim.series claim.end self.new (D.meaning disk.new)) (λ _. (D.meaning disk.new ≡ D.meaning disk.old) × (self.new ≡ self.old)) }
+        ensures moves { D.moves.writes disk.old (known_gap self.old) (encoded self.old.format.tag (next_of self.old claim.series claim.end)) disk.new }
     {
         let entry = self.known.next(claim);
         during(work, disk.write(gap, &encode(self.format.tag, entry)))?;
@@ -139,6 +148,7 @@ impl Ring {
     fn carry<D: Disk>(&mut self, disk: &mut D, entry: Record) -> Result<(), Interrupted>
         ensures work { IfErr result (λ stopped. stopped.work ≡ Carry entry.series) }
         ensures effect { MatchResult result (λ _. (between : Meaning) × Writes self.old (D.meaning disk.old) entry.series entry.end self.new between × Flushed between (D.meaning disk.new)) (λ stopped. Denied self.old (D.meaning disk.old) entry.series entry.end stopped.fault self.new (D.meaning disk.new)) }
+        ensures moves { Chain D.moves disk.old (write_and_flush (known_gap self.old) (encoded self.old.format.tag (next_of self.old entry.series entry.end)) (answer_of Write (D.meaning disk.old) (known_gap self.old))) disk.new }
     {
         let claim = Claim::from(entry);
         let work = Work::Carry(claim.series);
@@ -152,6 +162,7 @@ impl Ring {
         requires { self.old.known.top.0 + 8 < 2 ^ 62 }
         ensures gap { IfOk result (λ gap. gap ≡ known_gap self.new) }
         ensures search { MaySearch self.old (D.meaning disk.old) series → MatchResult result (λ _. Cleared self.old.format series (D.meaning disk.old) self.new (D.meaning disk.new)) (λ fault. Stopped self.old.format series (D.meaning disk.old) fault self.new (D.meaning disk.new)) }
+        ensures moves { MaySearch self.old (D.meaning disk.old) series → MatchResult result (λ _. GoesOn D.moves D.meaning self.old.format series disk.old (λ end. reserving self.old.format (D.meaning disk.new).reading series end ∷ []) disk.new) (λ _. (end : ℕ) → Tried D.moves D.meaning self.old.format series disk.old end disk.new) }
     {
         let start = self.known.top;
         let gap = loop {
@@ -167,11 +178,12 @@ impl Ring {
     // Clears the way and writes the reservation, which is then to be confirmed or given up.
     fn begin<D: Disk>(&mut self, disk: &mut D, claim: Claim) -> Result<Written, RingFault>
         requires { self.old.known.top.0 + 8 < 2 ^ 62 }
-        ensures { MayReserve self.old (D.meaning disk.old) claim.series claim.end → MatchResult result (λ written. Begun self.old.format claim.series claim.end (D.meaning disk.old) written self.new (D.meaning disk.new)) (λ fault. Ended self.old.format claim.series claim.end (D.meaning disk.old) (Err fault) self.new (D.meaning disk.new)) }
+        ensures begins { MayReserve self.old (D.meaning disk.old) claim.series claim.end → MatchResult result (λ written. Begun self.old.format claim.series claim.end (D.meaning disk.old) written self.new (D.meaning disk.new)) (λ fault. Ended self.old.format claim.series claim.end (D.meaning disk.old) (Err fault) self.new (D.meaning disk.new)) }
+        ensures moves { MayReserve self.old (D.meaning disk.old) claim.series claim.end → MatchResult result (λ written. (after : D) → D.moves.flushes disk.new written.sector after → Tried D.moves D.meaning self.old.format claim.series disk.old claim.end.0 after) (λ _. Tried D.moves D.meaning self.old.format claim.series disk.old claim.end.0 disk.new) }
     {
         let gap = self.clear_the_way(disk, claim.series)?;
         self.write_record(disk, gap, Work::Reservation(claim.series), claim)?;
-        Ok(Written { claim, sector: gap })
+        Ok(Written::new(claim, gap))
     }
 
     // What a reservation claims, if it may be made at all.
@@ -199,6 +211,8 @@ impl Ring {
     ) -> Result<Reserved, RingFault>
         ensures refused { (fault : RingFault) → refusal self.old.format self.old.known.top.0 series end ≡ Some fault → (result ≡ Err fault) × (self.new ≡ self.old) × (D.meaning disk.new ≡ D.meaning disk.old) }
         ensures reserves { Agrees self.old (D.meaning disk.old) → refusal self.old.format self.old.known.top.0 series end ≡ None → Ended self.old.format series end (D.meaning disk.old) result self.new (D.meaning disk.new) }
+        ensures untouched { (fault : RingFault) → refusal self.old.format self.old.known.top.0 series end ≡ Some fault → disk.new ≡ disk.old }
+        ensures moves { Agrees self.old (D.meaning disk.old) → refusal self.old.format self.old.known.top.0 series end ≡ None → Tried D.moves D.meaning self.old.format series disk.old end.0 disk.new }
     {
         let claim = self.admit(series, end)?;
         let written = self.begin(disk, claim)?;

@@ -1,5 +1,5 @@
 -- Histories of a server: the calls that were made, what each answered, and what the disk was after it; and what they tell.
-use Rattle.std.specs.Prelude.{ℕ, ◌+◌, ◌-◌, ◌*◌, ◌^◌, max, Bool, true, false, cond, ◌&&◌, ◌||◌, List, [], ◌∷◌, length, Some, None, Ok, Err, Option, Result, ◌==◌, nat_le, nat_lt}
+use Rattle.std.specs.Prelude.{ℕ, ◌+◌, ◌-◌, ◌*◌, ◌^◌, max, Bool, true, false, cond, ◌&&◌, ◌||◌, List, [], ◌∷◌, ◌++◌, length, Some, None, Ok, Err, Option, Result, ◌==◌, nat_le, nat_lt}
 use Rattle.record.specs.declared.numbers.Identifier.{Identifier}
 use Rattle.record.specs.declared.numbers.Rank.{Rank}
 use Rattle.record.specs.declared.numbers.Reading.{Reading}
@@ -7,9 +7,9 @@ use Rattle.record.specs.declared.numbers.Sequence.{Sequence}
 use Rattle.disk.specs.Meaning.{Meaning}
 use Rattle.kind.specs.Meaning.{Numbering}
 use Rattle.ring.specs.Left.{end_of}
-use Rattle.ring.specs.Operations.{performed, writes_in}
+use Rattle.ring.specs.Operations.{Op, performed, tried, writes_in}
 use Rattle.ring.specs.Ring.{top, plan, Step}
-use Rattle.server.specs.Rules.{format, block_end}
+use Rattle.server.specs.Rules.{format, Ask, one, Range, Wish, draws, decide}
 use Rattle.server.specs.declared.fault.ServerFault.{ServerFault}
 
 -- one call: a request of a series at a clock's reading, or a power cut with its tear and its new supply; with its answer and
@@ -18,11 +18,33 @@ pub data Event : Type 0 where
   request : ℕ → Reading → Result Identifier ServerFault → Meaning → Event
   cut : ℕ → ℕ → Result Sequence ServerFault → Meaning → Event
 
+-- the disk's meaning after an event
+abbrev pub after_of : Event → Meaning
+after_of (request s reading answer after) = after
+after_of (cut tear supply answer after) = after
+
 -- the disk's meaning after a history that began with a disk
 abbrev pub latest : Meaning → List Event → Meaning
 latest start [] = start
-latest start (request s reading answer after ∷ past) = after
-latest start (cut tear supply answer after ∷ past) = after
+latest start (event ∷ past) = after_of event
+
+-- what an event asks of the server; a cut asks nothing
+abbrev pub asks : Event → Option Ask
+asks (request s reading answer after) = Some (one s reading)
+asks (cut tear supply answer after) = None
+
+-- what an event tells of the series: one gave so many ranks at a reading, with these identifiers, the oldest first; one denied a
+-- request at a reading; nothing; or all woke with the disk
+pub data Told : Type 0 where
+  gave : ℕ → Reading → ℕ → List Identifier → Told
+  refused : ℕ → Reading → Told
+  silent : Told
+  woke : Meaning → Told
+
+abbrev pub told : Event → Told
+told (request s reading (Ok identifier) after) = gave s reading 1 (identifier ∷ [])
+told (request s reading (Err fault) after) = refused s reading
+told (cut tear supply answer after) = woke after
 
 -- a floor, 0 where there is none
 abbrev pub or_zero : Option Rank → ℕ
@@ -39,54 +61,79 @@ end_in k start m s = end_of (format k start) m.reading s
 
 -- next: one above the last rank given in the series since the latest cut or the start, or else the series' end as the disk
 -- read right after that cut or start
+abbrev pub next_by : Numbering → Meaning → ℕ → Told → ℕ → ℕ
+next_by k start s (gave t reading n xs) was = cond (t == s) (max was (floor_of k reading) + n) was
+next_by k start s (woke m) was = end_in k start m s
+next_by k start s tells was = was
+
 abbrev pub next : Numbering → Meaning → ℕ → List Event → ℕ
 next k start s [] = end_in k start start s
-next k start s (cut tear supply answer after ∷ past) = end_in k start after s
-next k start s (request t reading (Err fault) after ∷ past) = next k start s past
-next k start s (request t reading (Ok identifier) after ∷ past) =
-    cond (t == s) (max (next k start s past) (floor_of k reading) + 1) (next k start s past)
+next k start s (event ∷ past) = next_by k start s (told event) (next k start s past)
 
 -- the rank of a request: the larger of next and the reading's floor
 abbrev pub rank_of : Numbering → Meaning → ℕ → Reading → List Event → ℕ
 rank_of k start s reading past = max (next k start s past) (floor_of k reading)
 
 -- one above the last rank given in the series, 0 where none was
+abbrev pub after_by : Numbering → ℕ → Told → ℕ → ℕ → ℕ
+after_by k s (gave t reading n xs) next was = cond (t == s) (max next (floor_of k reading) + n) was
+after_by k s tells next was = was
+
 abbrev pub after_last : Numbering → Meaning → ℕ → List Event → ℕ
 after_last k start s [] = 0
-after_last k start s (cut tear supply answer after ∷ past) = after_last k start s past
-after_last k start s (request t reading (Err fault) after ∷ past) = after_last k start s past
-after_last k start s (request t reading (Ok identifier) after ∷ past) =
-    cond (t == s) (rank_of k start s reading past + 1) (after_last k start s past)
+after_last k start s (event ∷ past) =
+    after_by k s (told event) (next k start s past) (after_last k start s past)
 
 -- the highest floor of the series' requests since a rank was last given in it, 0 without one
+abbrev pub floor_by : Numbering → ℕ → Told → ℕ → ℕ
+floor_by k s (gave t reading n xs) was = cond (t == s) 0 was
+floor_by k s (refused t reading) was = cond (t == s) (max was (floor_of k reading)) was
+floor_by k s tells was = was
+
 abbrev pub floor_since : Numbering → ℕ → List Event → ℕ
 floor_since k s [] = 0
-floor_since k s (cut tear supply answer after ∷ past) = floor_since k s past
-floor_since k s (request t reading (Ok identifier) after ∷ past) = cond (t == s) 0 (floor_since k s past)
-floor_since k s (request t reading (Err fault) after ∷ past) =
-    cond (t == s) (max (floor_since k s past) (floor_of k reading)) (floor_since k s past)
+floor_since k s (event ∷ past) = floor_by k s (told event) (floor_since k s past)
 
 -- the cuts since a rank was last given in the series
+abbrev pub cuts_by : ℕ → Told → ℕ → ℕ
+cuts_by s (gave t reading n xs) was = cond (t == s) 0 was
+cuts_by s (woke m) was = was + 1
+cuts_by s tells was = was
+
 abbrev pub cuts_since : ℕ → List Event → ℕ
 cuts_since s [] = 0
-cuts_since s (cut tear supply answer after ∷ past) = cuts_since s past + 1
-cuts_since s (request t reading (Err fault) after ∷ past) = cuts_since s past
-cuts_since s (request t reading (Ok identifier) after ∷ past) = cond (t == s) 0 (cuts_since s past)
+cuts_since s (event ∷ past) = cuts_by s (told event) (cuts_since s past)
 
--- the ranks that so many cuts may lose: a block size each
-abbrev pub loss : Numbering → ℕ → ℕ
-loss k cuts = cuts * k.block
+-- the ranks that one cut may lose after these calls: a block size
+unfoldable pub lost : Numbering → List Event → ℕ
+lost k past = k.block
+
+-- the ranks that so many cuts may lose
+abbrev pub loss : Numbering → List Event → ℕ → ℕ
+loss k past cuts = cuts * lost k past
+
+-- identifiers put in front of others, one after the other
+abbrev pub pushed : List Identifier → List Identifier → List Identifier
+pushed [] was = was
+pushed (x ∷ xs) was = pushed xs (x ∷ was)
 
 -- the identifiers given in a series, the newest first
+abbrev pub labels_by : ℕ → Told → List Identifier → List Identifier
+labels_by s (gave t reading n xs) was = cond (t == s) (pushed xs was) was
+labels_by s tells was = was
+
 abbrev pub labels : ℕ → List Event → List Identifier
 labels s [] = []
-labels s (cut tear supply answer after ∷ past) = labels s past
-labels s (request t reading (Err fault) after ∷ past) = labels s past
-labels s (request t reading (Ok identifier) after ∷ past) = cond (t == s) (identifier ∷ labels s past) (labels s past)
+labels s (event ∷ past) = labels_by s (told event) (labels s past)
 
--- a request needs a reservation where its rank is not below the series' end
-abbrev pub needs_block : Numbering → Meaning → ℕ → Reading → List Event → Bool
-needs_block k start s reading past = nat_le (end_in k start (latest start past) s) (rank_of k start s reading past)
+-- what is told of the eight series; 0 of any other
+abbrev pub of_eight : (ℕ → ℕ) → ℕ → ℕ
+of_eight tells s = cond (nat_lt s 8) (tells s) 0
+
+-- what a call wants of a server that is up: the rule by which a server decides, by what calls and disk tell
+abbrev pub wish : Numbering → Meaning → Ask → List Event → Wish
+wish k start ask past =
+    decide k (of_eight (end_in k start (latest start past))) (of_eight (λ s. next k start s past)) ask
 
 -- the top record as the disk reads
 abbrev pub top_record : Numbering → Meaning → List Event → ℕ
@@ -96,79 +143,93 @@ top_record k start past = top (format k start) (latest start past).reading
 abbrev pub numbers_suffice : Numbering → Meaning → List Event → Bool
 numbers_suffice k start past = nat_le (top_record k start past + 8) (2 ^ 62 - 1)
 
--- a reading is lawful where it has a floor
-abbrev pub is_lawful : Option Rank → Bool
-is_lawful None = false
-is_lawful (Some floor) = true
+-- the writes of a reservation
+abbrev pub steps_of : Numbering → Meaning → List Event → ℕ → Range → List Step
+steps_of k start past s claimed = plan (format k start) 7 s claimed.end (latest start past).reading
 
--- a request reserves a block, on a server that is up: it needs one, and nothing forbids it
-abbrev pub reserves : Numbering → Meaning → ℕ → Reading → List Event → Bool
-reserves k start s reading past =
-    nat_lt s 8
-    && (is_lawful (k.floor reading)
-    && (nat_le (rank_of k start s reading past) k.top.0
-    && (needs_block k start s reading past && numbers_suffice k start past)))
+-- the writes that a wish asks for: those of the reservation that it claims, as long as numbers suffice, and else none
+abbrev pub wanted_by : Numbering → Meaning → List Event → Wish → List Step
+wanted_by k start past (draws s first n (Some claimed)) =
+    cond (numbers_suffice k start past) (steps_of k start past s claimed) []
+wanted_by k start past want = []
 
--- the end of the block that a request would reserve
-abbrev pub block_to : Numbering → Meaning → ℕ → Reading → List Event → ℕ
-block_to k start s reading past = (block_end k (record { 0 = rank_of k start s reading past })).0
-
--- the writes that a request asks for, on a server that is up: those of its reservation, and else none
-abbrev pub wanted : Numbering → Meaning → ℕ → Reading → List Event → List Step
-wanted k start s reading past =
-    cond (reserves k start s reading past)
-    (plan (format k start) 7 s (block_to k start s reading past) (latest start past).reading)
-    []
+-- the writes that a call asks for on a server that is up
+abbrev pub wanted : Numbering → Meaning → Ask → List Event → List Step
+wanted k start ask past = wanted_by k start past (wish k start ask past)
 
 -- each write is followed by its flush, so a supply below twice the writes goes dark in one of them
 abbrev pub too_little : ℕ → List Step → Bool
 too_little supply steps = nat_lt supply (2 * length steps)
 
 -- the disk went dark, and no cut came since
+abbrev pub dark_by : Numbering → Meaning → List Event → Bool → Option Ask → Bool
+dark_by k start past was None = false
+dark_by k start past was (Some ask) =
+    was || too_little (latest start past).supply (wanted k start ask past)
+
 abbrev pub dark : Numbering → Meaning → List Event → Bool
 dark k start [] = false
-dark k start (cut tear supply answer after ∷ past) = false
-dark k start (request s reading answer after ∷ past) =
-    dark k start past || too_little (latest start past).supply (wanted k start s reading past)
+dark k start (event ∷ past) = dark_by k start past (dark k start past) (asks event)
 
--- the writes that a request asks for: none where the disk went dark before
-abbrev pub asked : Numbering → Meaning → ℕ → Reading → List Event → List Step
-asked k start s reading past = cond (dark k start past) [] (wanted k start s reading past)
+-- the writes that a call asks for: none where the disk went dark before
+abbrev pub asked : Numbering → Meaning → Ask → List Event → List Step
+asked k start ask past = cond (dark k start past) [] (wanted k start ask past)
+
+-- the operations of a call that succeed
+abbrev pub succeeded : Numbering → Meaning → Ask → List Event → List Op
+succeeded k start ask past =
+    performed (format k start) (asked k start ask past) (latest start past).supply
+
+-- the operations that an event tries with so much supply: those of the writes that its call asks for; a cut tries none
+abbrev pub tried_by : Numbering → Meaning → List Event → ℕ → Option Ask → List Op
+tried_by k start past supply None = []
+tried_by k start past supply (Some ask) = tried (format k start) (asked k start ask past) supply
 
 -- the writes that succeeded
+abbrev pub writes_by : Numbering → Meaning → List Event → ℕ → Option Ask → ℕ
+writes_by k start past was None = was
+writes_by k start past was (Some ask) = was + writes_in (succeeded k start ask past)
+
 abbrev pub writes : Numbering → Meaning → List Event → ℕ
 writes k start [] = 0
-writes k start (cut tear supply answer after ∷ past) = writes k start past
-writes k start (request s reading answer after ∷ past) =
-    writes k start past
-    + writes_in (performed (format k start) (asked k start s reading past) (latest start past).supply)
+writes k start (event ∷ past) = writes_by k start past (writes k start past) (asks event)
 
 -- a reservation that was not flushed stands where, after the next cut, its end is the series' end as the disk reads
 abbrev pub left_standing : Numbering → Meaning → ℕ → ℕ → Option Meaning → Bool
 left_standing k start s end None = false
 left_standing k start s end (Some left) = end_in k start left s == end
 
--- whether a request's reservation stands: none does not, a flushed one does, any other as the next cut left it
+-- whether a reservation of these writes stands: a flushed one does, any other as the next cut left it
 abbrev pub stood : Numbering → Meaning → ℕ → ℕ → ℕ → Option Meaning → List Step → Bool
-stood k start s end supply next_cut [] = false
-stood k start s end supply next_cut (step ∷ steps) =
-    cond (too_little supply (step ∷ steps)) (left_standing k start s end next_cut) true
+stood k start s end supply next_cut steps =
+    cond (too_little supply steps) (left_standing k start s end next_cut) true
 
--- how many reservations of a series stand; next_cut is what the first cut after these events left, if there was one
-abbrev pub standing : Numbering → Meaning → ℕ → Option Meaning → List Event → ℕ
-standing k start s next_cut [] = 0
-standing k start s next_cut (cut tear supply answer after ∷ past) = standing k start s (Some after) past
-standing k start s next_cut (request t reading answer after ∷ past) =
-    cond
-    (t == s && stood k start s (block_to k start t reading past) (latest start past).supply next_cut (asked k start t reading past))
-    (standing k start s next_cut past + 1)
-    (standing k start s next_cut past)
+-- the reservation of a series that these writes make, if it stands
+abbrev pub reserved_by : Numbering → Meaning → ℕ → ℕ → Option Meaning → Wish → List Step → List Range
+reserved_by k start s supply next_cut (draws t first n (Some claimed)) (step ∷ steps) =
+    cond (t == s && stood k start s claimed.end supply next_cut (step ∷ steps)) (claimed ∷ []) []
+reserved_by k start s supply next_cut want steps = []
 
--- 1 where a request makes no reservation of its own, else 0: then the latest one covers its rank, and is not counted as before it
-abbrev pub one_if_none : List Step → ℕ
-one_if_none [] = 1
-one_if_none (step ∷ steps) = 0
+-- the reservation of a series that a call made, if it stands; next_cut is what the first cut after it left, if there was one
+abbrev pub made : Numbering → Meaning → ℕ → Option Meaning → List Event → Option Ask → List Range
+made k start s next_cut past None = []
+made k start s next_cut past (Some ask) =
+    reserved_by k start s (latest start past).supply next_cut (wish k start ask past) (asked k start ask past)
 
--- how many of a series' reservations were made before the one that covers a request's rank
-abbrev pub reserved_before : Numbering → Meaning → ℕ → Reading → List Event → ℕ
-reserved_before k start s reading past = standing k start s None past - one_if_none (asked k start s reading past)
+-- what the first cut left from an event on: the event's own disk where it asks nothing
+abbrev pub cut_from : Option Ask → Meaning → Option Meaning → Option Meaning
+cut_from None after next_cut = Some after
+cut_from (Some ask) after next_cut = next_cut
+
+-- the reservations of a series that stand, the newest first
+abbrev pub standing : Numbering → Meaning → ℕ → Option Meaning → List Event → List Range
+standing k start s next_cut [] = []
+standing k start s next_cut (event ∷ past) =
+    made k start s next_cut past (asks event)
+    ++ standing k start s (cut_from (asks event) (after_of event) next_cut) past
+
+-- how many of these were made before the one that covers a rank
+abbrev pub made_before : ℕ → List Range → ℕ
+made_before rank [] = 0
+made_before rank (r ∷ older) =
+    cond (nat_le r.first rank && nat_lt rank r.end) (length older) (made_before rank older)

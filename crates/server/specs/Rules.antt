@@ -1,6 +1,5 @@
 -- The server's rules: waking, what a request asks for, and what each call answers and leaves.
-use Rattle.std.specs.Prelude.{◌≡◌, ℕ, ◌+◌, min, max, cond, List, map, Some, None, Ok, Err, Option, Result, nat_le, nat_lt, slice_index_or, slice_set}
-use Rattle.std.specs.List.{range_with_len}
+use Rattle.std.specs.Prelude.{◌≡◌, ℕ, ◌+◌, ◌-◌, min, max, Bool, true, false, cond, List, [], map, Some, None, Ok, Err, Option, Result, nat_le, nat_lt, slice_index_or, slice_set}
 use Rattle.record.specs.declared.numbers.Identifier.{Identifier}
 use Rattle.record.specs.declared.numbers.Rank.{Rank}
 use Rattle.record.specs.declared.numbers.Reading.{Reading as ClockReading}
@@ -8,11 +7,14 @@ use Rattle.record.specs.declared.numbers.Sequence.{Sequence}
 use Rattle.record.specs.declared.sector.Format.{Format}
 use Rattle.disk.specs.Meaning.{Meaning, Cut, count}
 use Rattle.kind.specs.Meaning.{Numbering}
-use Rattle.ring.specs.Ring.{known_end, recovered}
+use Rattle.ring.specs.Operations.{Op, tried}
+use Rattle.ring.specs.Ring.{known_ends, plan, recovered}
+use Rattle.ring.specs.Token.{empty_block}
 use Rattle.ring.specs.Search.{Ended, refusal}
 use Rattle.ring.specs.declared.fault.RingFault.{RingFault}
-use Rattle.ring.specs.declared.fault.RingFault.TheVariants.{Size, Foreign, LiveInGap, Series as NoSeries, End, Exhausted, Disk, Interrupted}
+use Rattle.ring.specs.declared.fault.RingFault.TheVariants.{Exhausted}
 use Rattle.ring.specs.declared.ring.Ring.{Ring}
+use Rattle.ring.specs.declared.token.Block.{Block}
 use Rattle.ring.specs.declared.token.Reserved.{Reserved}
 use Rattle.server.specs.declared.fault.ServerFault.{ServerFault}
 use Rattle.server.specs.declared.fault.ServerFault.TheVariants.{Down as WasDown, Series, Reading, AboveTop, Ring as OfRing}
@@ -26,62 +28,77 @@ format k m = record { tag = k.tag; top = k.top; sectors = count m }
 
 -- waking sets the next rank of each series to its end
 abbrev pub awake : Result Ring RingFault → State
-awake (Ok r) = Awake (record { ring = r; nexts = map (known_end r.known) (range_with_len 0 8) })
+awake (Ok r) = Awake (record { ring = r; blocks = map empty_block (known_ends r.known) })
 awake (Err fault) = Down fault
 
--- the next rank of a series, 0 past the list
-abbrev pub next_in : List Rank → ℕ → Rank
-next_in nexts s = slice_index_or nexts s (record { 0 = 0 })
+-- the block in hand of a series, an empty one past the list
+abbrev pub block_in : List Block → ℕ → Block
+block_in blocks s = slice_index_or blocks s (empty_block (record { 0 = 0 }))
 
--- the server with another next rank of a series
-abbrev pub with_next : Up → ℕ → Rank → Up
-with_next u s next = record { ring = u.ring; nexts = slice_set u.nexts s next }
+-- the server with another block of a series
+abbrev pub with_block : Up → ℕ → Block → Up
+with_block u s block = record { ring = u.ring; blocks = slice_set u.blocks s block }
 
 -- the server with another ring
 abbrev pub with_ring : Up → Ring → Up
-with_ring u ring = record { ring = ring; nexts = u.nexts }
+with_ring u ring = record { ring = ring; blocks = u.blocks }
 
--- what a request asks for: it is refused, or a rank is handed out of the block in hand, or a block is reserved for it
-pub data Decision : Type 0 where
-  refuse : ServerFault → Decision
-  hand : Rank → Decision
-  reserve : Rank → Decision
+-- what a call but a cut asks for: an identifier of a series at a clock's reading
+pub data Ask : Type 0 where
+  one : ℕ → ClockReading → Ask
+
+-- the ranks from a first one up to below an end
+pub record Range : Type 0 where
+  pub first : ℕ
+  pub end : ℕ
+
+-- what a call wants of a server that is up: it is declined, or it draws so many ranks of a series from a first one on, once the
+-- ranks are reserved that it claims, if any
+pub data Wish : Type 0 where
+  declines : ServerFault → Wish
+  draws : ℕ → ℕ → ℕ → Option Range → Wish
 
 -- the end of a block that is reserved from a rank on: the smaller of rank + block size and top + 1
 abbrev pub block_end : Numbering → Rank → Rank
 block_end k rank = record { 0 = min (rank.0 + k.block) (k.top.0 + 1) }
 
--- by the rank: above the top, below the end, or a block from it on
-abbrev pub by_rank : Numbering → ℕ → ℕ → Decision
-by_rank k end rank =
-    cond (nat_le rank k.top.0)
-    (cond (nat_lt rank end)
-    (hand (record { 0 = rank }))
-    (reserve (record { 0 = rank })))
-    (refuse AboveTop)
+-- what is claimed for so many ranks from a first one on: nothing where they lie below the end, else a block from the last of them
+abbrev pub claim : Numbering → ℕ → ℕ → ℕ → Option Range
+claim k end first n =
+    cond (nat_le (first + n) end)
+    None
+    (Some (record { first = max end first; end = (block_end k (record { 0 = first + n - 1 })).0 }))
 
--- by the reading's floor: the rank is the larger of next and floor
-abbrev pub by_floor : Numbering → ℕ → ℕ → Option Rank → Decision
-by_floor k end next None = refuse Reading
-by_floor k end next (Some floor) = by_rank k end (max next floor.0)
+-- by the rank: above the top, or drawn
+abbrev pub by_rank : Numbering → ℕ → ℕ → ℕ → ℕ → Wish
+by_rank k s end first n =
+    cond (nat_le (first + n) (k.top.0 + 1)) (draws s first n (claim k end first n)) (declines AboveTop)
 
--- by the series
-abbrev pub decision : Numbering → Up → ℕ → ClockReading → Decision
-decision k u s reading =
-    cond (nat_lt s 8)
-    (by_floor k (known_end u.ring.known s).0 (next_in u.nexts s).0 (k.floor reading))
-    (refuse (Series s))
+-- by the reading's floor: the first rank is the larger of next and floor
+abbrev pub by_floor : Numbering → ℕ → ℕ → ℕ → ℕ → Option Rank → Wish
+by_floor k s end next n None = declines Reading
+by_floor k s end next n (Some floor) = by_rank k s end (max next floor.0) n
+
+-- what a call wants, by the end and the next rank of each series
+abbrev pub decide : Numbering → (ℕ → ℕ) → (ℕ → ℕ) → Ask → Wish
+decide k ends nexts (one s reading) =
+    cond (nat_lt s 8) (by_floor k s (ends s) (nexts s) 1 (k.floor reading)) (declines (Series s))
+
+-- the end and the next rank of the block in hand of a series
+abbrev pub end_at : Up → ℕ → ℕ
+end_at u s = (block_in u.blocks s).end.0
+
+abbrev pub next_at : Up → ℕ → ℕ
+next_at u s = (block_in u.blocks s).next.0
+
+-- a denial of the ring that brings the server down: any but that numbers run short
+abbrev pub is_fatal : RingFault → Bool
+is_fatal Exhausted = false
+is_fatal fault = true
 
 -- what a denied reservation leaves: numbers that run short change nothing, anything else brings the server down
 abbrev pub stopped : Up → RingFault → State
-stopped u Exhausted = Awake u
-stopped u (Size n) = Down (Size n)
-stopped u (Foreign n) = Down (Foreign n)
-stopped u (LiveInGap n) = Down (LiveInGap n)
-stopped u (NoSeries n) = Down (NoSeries n)
-stopped u (End e) = Down (End e)
-stopped u (Disk f) = Down (Disk f)
-stopped u (Interrupted i) = Down (Interrupted i)
+stopped u fault = cond (is_fatal fault) (Down fault) (Awake u)
 
 -- a call of the ring's reserve: refused with nothing touched, or done as its plan asks
 pub record Reserves (ring : Ring) (m : Meaning) (s : ℕ) (end : Rank) (answer : Result Reserved RingFault) (ring' : Ring) (m' : Meaning) : Type 0 where
@@ -90,45 +107,83 @@ pub record Reserves (ring : Ring) (m : Meaning) (s : ℕ) (end : Rank) (answer :
       (answer ≡ Err fault) × (ring' ≡ ring) × (m' ≡ m)
   pub reserves : refusal ring.format ring.known.top.0 s end ≡ None → Ended ring.format s end m answer ring' m'
 
--- the state after a rank was given: the series' next rank is one above it
-abbrev pub given : Up → ℕ → Rank → State
-given u s rank = Awake (with_next u s (record { 0 = rank.0 + 1 }))
+-- a block that is reserved up to an end is in hand; else the ring's denial, and where it is not fatal nothing has changed
+pub record TookBlock (u : Up) (m : Meaning) (s : ℕ) (end : Rank) (u' : Up) (m' : Meaning) : Type 0 where
+  pub ring : Ring
+  pub reserves : Reserves u.ring m s end (Ok (record { series = s; end = end })) ring m'
+  pub has : u' ≡ with_block (with_ring u ring) s (record { next = (block_in u.blocks s).next; end = end })
 
--- what the ring's answer makes of a request: the rank is given after the flush; a denial is passed on
-abbrev pub Answered : Numbering → Up → ℕ → Rank → Ring → Result Reserved RingFault → Result Identifier ServerFault → State → Type 0
-Answered k u s rank ring (Ok reserved) r after =
-    (r ≡ Ok (k.identifier s rank)) × (after ≡ given (with_ring u ring) s rank)
-Answered k u s rank ring (Err fault) r after = (r ≡ Err (OfRing fault)) × (after ≡ stopped u fault)
+pub record TookNone (u : Up) (m : Meaning) (s : ℕ) (end : Rank) (fault : RingFault) (u' : Up) (m' : Meaning) : Type 0 where
+  pub ring : Ring
+  pub reserves : Reserves u.ring m s end (Err fault) ring m'
+  pub same : is_fatal fault ≡ false → (u' ≡ u) × (m' ≡ m)
 
--- a reservation, and what its answer makes of the request
-pub record Reserving (k : Numbering) (u : Up) (m : Meaning) (s : ℕ) (rank : Rank) (r : Result Identifier ServerFault) (after : State) (m' : Meaning) : Type 0 where
+abbrev pub Took : Up → Meaning → ℕ → Rank → Result (Unit {0}) RingFault → Up → Meaning → Type 0
+Took u m s end (Ok done) u' m' = TookBlock u m s end u' m'
+Took u m s end (Err fault) u' m' = TookNone u m s end fault u' m'
+
+-- a block in hand that ends above a rank stays; else one is reserved
+abbrev pub Ready : Bool → Up → Meaning → ℕ → Rank → Result (Unit {0}) RingFault → Up → Meaning → Type 0
+Ready true u m s end r u' m' = (r ≡ Ok tt) × (u' ≡ u) × (m' ≡ m)
+Ready false u m s end r u' m' = Took u m s end r u' m'
+
+-- the operations that a call of the ring's reserve tries, unless it is refused
+abbrev pub tries_for : Ring → Meaning → ℕ → Rank → Option RingFault → List Op
+tries_for ring m s end None = tried ring.format (plan ring.format 7 s end.0 m.reading) m.supply
+tries_for ring m s end (Some fault) = []
+
+-- the operations that a call tries, on a server that is up, by what it wants
+abbrev pub tries_by : Up → Meaning → Wish → List Op
+tries_by u m (declines fault) = []
+tries_by u m (draws s first n None) = []
+tries_by u m (draws s first n (Some claimed)) =
+    tries_for u.ring m s (record { 0 = claimed.end })
+    (refusal u.ring.format u.ring.known.top.0 s (record { 0 = claimed.end }))
+
+-- and on any server
+abbrev pub tries : Numbering → State → Meaning → Ask → List Op
+tries k (Down fault) m ask = []
+tries k (Awake u) m ask = tries_by u m (decide k (end_at u) (next_at u) ask)
+
+-- the state after so many ranks were drawn from a first one on, out of a block up to an end: the series' next rank is the one
+-- after them
+abbrev pub drawn : Up → ℕ → Rank → ℕ → ℕ → State
+drawn u s end first n = Awake (with_block u s (record { next = record { 0 = first + n }; end = end }))
+
+-- what the ring's answer makes of a draw: it is given after the flush; a denial is passed on
+abbrev pub Answered : {A : Type 0} → Up → ℕ → ℕ → ℕ → A → Ring → Result Reserved RingFault → Result A ServerFault → State → Type 0
+Answered u s first n given ring (Ok reserved) r after =
+    (r ≡ Ok given) × (after ≡ drawn (with_ring u ring) s reserved.end first n)
+Answered u s first n given ring (Err fault) r after = (r ≡ Err (OfRing fault)) × (after ≡ stopped u fault)
+
+-- a reservation, and what its answer makes of the draw
+pub record Reserving {A : Type 0} (u : Up) (m : Meaning) (s first n : ℕ) (claimed : Range) (given : A) (r : Result A ServerFault) (after : State) (m' : Meaning) : Type 0 where
   pub ring : Ring
   pub answer : Result Reserved RingFault
-  pub reserves : Reserves u.ring m s (block_end k rank) answer ring m'
-  pub answered : Answered k u s rank ring answer r after
+  pub reserves : Reserves u.ring m s (record { 0 = claimed.end }) answer ring m'
+  pub answered : Answered u s first n given ring answer r after
 
--- the state once the ring has answered, before the rank is given: the block is in hand, or the denial leaves what it leaves
-abbrev pub settled : Up → Ring → Result Reserved RingFault → State
-settled u ring (Ok reserved) = Awake (with_ring u ring)
-settled u ring (Err fault) = stopped u fault
+-- any call but a cut, by what it answers for ranks that are drawn: those of a series, from a first one on, so many, with their claim
+module _ {A : Type 0} (answers : ℕ → ℕ → ℕ → Option Range → A) where
+  -- what it does on a server that is up, by what it wants
+  abbrev pub Does : Up → Meaning → Wish → Result A ServerFault → State → Meaning → Type 0
+  Does u m (declines fault) r after m' = (r ≡ Err fault) × (after ≡ Awake u) × (m' ≡ m)
+  Does u m (draws s first n None) r after m' =
+      (r ≡ Ok (answers s first n None)) × (after ≡ drawn u s (block_in u.blocks s).end first n) × (m' ≡ m)
+  Does u m (draws s first n (Some claimed)) r after m' =
+      Reserving u m s first n claimed (answers s first n (Some claimed)) r after m'
 
--- a reservation that is done: the server that has the block in hand
-pub record Extended (k : Numbering) (u : Up) (m : Meaning) (s : ℕ) (rank : Rank) (extended : Up) (m' : Meaning) : Type 0 where
-  pub ring : Ring
-  pub reserved : Reserved
-  pub reserves : Reserves u.ring m s (block_end k rank) (Ok reserved) ring m'
-  pub has : extended ≡ with_ring u ring
+  -- what it answers, and what it leaves of the server and of its disk
+  abbrev pub Acts : Numbering → State → Meaning → Ask → Result A ServerFault → State → Meaning → Type 0
+  Acts k (Down fault) m ask r after m' = (r ≡ Err (WasDown fault)) × (after ≡ Down fault) × (m' ≡ m)
+  Acts k (Awake u) m ask r after m' = Does u m (decide k (end_at u) (next_at u) ask) r after m'
 
--- what a request does on a server that is up, by what it asks for
-abbrev pub Does : Numbering → Up → Meaning → ℕ → Decision → Result Identifier ServerFault → State → Meaning → Type 0
-Does k u m s (refuse fault) r after m' = (r ≡ Err fault) × (after ≡ Awake u) × (m' ≡ m)
-Does k u m s (hand rank) r after m' = (r ≡ Ok (k.identifier s rank)) × (after ≡ given u s rank) × (m' ≡ m)
-Does k u m s (reserve rank) r after m' = Reserving k u m s rank r after m'
+-- a request answers the identifier of the rank
+abbrev pub identified : Numbering → ℕ → ℕ → ℕ → Option Range → Identifier
+identified k s first n claimed = k.identifier s (record { 0 = first })
 
--- a request: what it answers, and what it leaves of the server and of its disk
 abbrev pub Gave : Numbering → State → Meaning → ℕ → ClockReading → Result Identifier ServerFault → State → Meaning → Type 0
-Gave k (Down fault) m s reading r after m' = (r ≡ Err (WasDown fault)) × (after ≡ Down fault) × (m' ≡ m)
-Gave k (Awake u) m s reading r after m' = Does k u m s (decision k u s reading) r after m'
+Gave k state m s reading r after m' = Acts (identified k) k state m (one s reading) r after m'
 
 -- a server that is put together, or that wakes after a cut
 abbrev pub woken : Numbering → Meaning → State

@@ -1,21 +1,25 @@
 // Whether the server is up, and what it has in hand.
-ghost use Rattle.std.specs.Prelude.{◌≡◌, ◌<◌};
-ghost use Rattle.server.specs.Rules.{awake, next_in, with_next, with_ring, settled};
+ghost use Rattle.std.specs.Prelude.{◌≡◌, ◌<◌, [], length, nat_lt, cond, IfSome};
+ghost use Rattle.ring.specs.Operations.{Chain};
+ghost use Rattle.ring.specs.Ring.{Agrees};
+ghost use Rattle.ring.specs.Search.{refusal};
+ghost use Rattle.ring.specs.Token.{drawn, after_draw};
+ghost use Rattle.server.specs.Rules.{awake, block_in, with_block, is_fatal, tries_for, Ready, Took};
 
+use disk::Disk;
 use record::Rank;
-use ring::{Reserved, Ring, RingFault};
+use ring::{Block, Drawn, Ring, RingFault};
 
-// A server that is up: its ring, and of each series the next rank of the block in hand. The block's end is the series' end,
-// which the ring knows; the ring knows nothing of ranks that are given.
-#[derive(Clone, Copy)]
+// A server that is up: its ring, and of each series the block in hand.
+#[derive(Drop)]
 pub struct Up {
     pub(crate) ring: Ring,
-    pub(crate) nexts: [Rank; 8],
+    pub(crate) blocks: [Block; 8],
 }
 
 // Up, or down with the fault that brought the server down. It has the shape of a Result and names of its own: a server that is
 // down is no failed answer.
-#[derive(Clone, Copy)]
+#[derive(Drop)]
 pub enum State {
     Up(Up),
     Down(RingFault),
@@ -23,33 +27,77 @@ pub enum State {
 
 impl Up {
     // The next rank of a series.
-    pub(crate) fn next(self, series: u8) -> Rank
+    pub(crate) fn next(&self, series: u8) -> Rank
         requires { series < 8 }
-        ensures { result ≡ next_in self.nexts series }
+        ensures next { result ≡ (block_in self.now.blocks series).next }
+        ensures eight { length self.now.blocks ≡ 8 }
     {
-        self.nexts[usize::from(series)]
+        self.blocks[usize::from(series)].next()
     }
 
-    // The same server with another ring.
-    pub(crate) fn with_ring(self, ring: Ring) -> Up
-        ensures { result ≡ with_ring self ring }
+    // The end of the block in hand of a series.
+    pub(crate) fn end(&self, series: u8) -> Rank
+        requires { series < 8 }
+        ensures { result ≡ (block_in self.now.blocks series).end }
     {
-        let Up { ring: _, nexts } = self;
-        Up { ring, nexts }
+        self.blocks[usize::from(series)].end()
     }
 
-    // The same server with another next rank of a series.
-    pub(crate) fn with_next(self, series: u8, next: Rank) -> Up
+    // Draws a rank of a series, none below a least one.
+    pub(crate) fn draw(&mut self, series: u8, least: Rank) -> Option<Drawn>
         requires { series < 8 }
-        ensures { result ≡ with_next self series next }
+        ensures drawn { result ≡ drawn least (block_in self.old.blocks series) }
+        ensures ring { self.new.ring ≡ self.old.ring }
+        ensures rest { IfSome result (λ _. self.new ≡ with_block self.old series (after_draw least (block_in self.old.blocks series))) }
     {
-        let mut nexts = self.nexts;
-        nexts[usize::from(series)] = next;
-        Up {
-            ring: self.ring,
-            nexts,
+        self.blocks[usize::from(series)].draw(least)
+    }
+
+    // Reserves up to a new end, and takes the block in hand.
+    #[tactic(auto, using(crate::proofs::Requests::took_well, crate::proofs::Requests::took_none))]
+    pub(crate) fn extend<D: Disk>(
+        &mut self,
+        disk: &mut D,
+        series: u8,
+        end: Rank,
+    ) -> Result<(), RingFault>
+        requires series { series < 8 }
+        requires agrees { Agrees self.old.ring (D.meaning disk.old) }
+        ensures took { Took self.old (D.meaning disk.old) series end result self.new (D.meaning disk.new) }
+        ensures moves { Chain D.moves disk.old (tries_for self.old.ring (D.meaning disk.old) series end (refusal self.old.ring.format self.old.ring.known.top.0 series end)) disk.new }
+    {
+        let reserved = self.ring.reserve(disk, series, end)?;
+        self.blocks[usize::from(series)].fill(reserved);
+        Ok(())
+    }
+}
+
+impl Up {
+    // Has a block in hand that ends above a rank: the one that it has, or one that it reserves up to a new end.
+    pub(crate) fn ready<D: Disk>(
+        &mut self,
+        disk: &mut D,
+        series: u8,
+        rank: Rank,
+        end: Rank,
+    ) -> Result<(), RingFault>
+        requires series { series < 8 }
+        requires agrees { Agrees self.old.ring (D.meaning disk.old) }
+        ensures ready { Ready (nat_lt rank.0 (block_in self.old.blocks series).end.0) self.old (D.meaning disk.old) series end result self.new (D.meaning disk.new) }
+        ensures moves { Chain D.moves disk.old (cond (nat_lt rank.0 (block_in self.old.blocks series).end.0) [] (tries_for self.old.ring (D.meaning disk.old) series end (refusal self.old.ring.format self.old.ring.known.top.0 series end))) disk.new }
+    {
+        if rank < self.end(series) {
+            return Ok(());
         }
+        self.extend(disk, series, end)
     }
+}
+
+// Whether a denial of the ring brings the server down: numbers that run short do not.
+pub(crate) fn brings_down(fault: RingFault) -> bool
+    ensures { result ≡ is_fatal fault }
+{
+    !matches!(fault, RingFault::Exhausted)
 }
 
 // Waking: the blocks in hand are empty, each next rank is the series' end.
@@ -59,20 +107,8 @@ pub(crate) fn wake(recovered: Result<Ring, RingFault>) -> State
     match recovered {
         Ok(ring) => State::Up(Up {
             ring,
-            nexts: ring.ends(),
+            blocks: ring.blocks(),
         }),
-        Err(fault) => State::Down(fault),
-    }
-}
-
-// What the ring's answer leaves: the block in hand where it is reserved; numbers that run short change nothing, and anything
-// else brings the server down.
-pub(crate) fn settle(up: Up, ring: Ring, reserved: Result<Reserved, RingFault>) -> State
-    ensures { result ≡ settled up ring reserved }
-{
-    match reserved {
-        Ok(_) => State::Up(up.with_ring(ring)),
-        Err(RingFault::Exhausted) => State::Up(up),
         Err(fault) => State::Down(fault),
     }
 }

@@ -3,7 +3,7 @@
 
 ghost use Rattle.std.specs.Prelude.{◌≤◌, length, IfOk};
 
-use simulator::{PRINT_BYTES, Partial, Simulator};
+use simulator::Feed;
 use std::io::{self, BufWriter, ErrorKind, Read, Write};
 use std::ops::ControlFlow;
 
@@ -12,62 +12,36 @@ const MEMORY_BYTES: usize = 65_536;
 
 const READ_BYTES: usize = 65_536;
 
-// A run of the simulator: the line that is being read, and where the answers go.
+// A run of the simulator, the prints of one piece, and where they go.
 #[derive(Drop)]
 struct Session<'a, W> {
-    simulator: Simulator<'a>,
-    partial: Partial,
+    feed: Feed<'a>,
+    print: Vec<u8>,
     out: W,
 }
 
 impl<W: Write> Session<'_, W> {
-    // Takes the line that is held and prints its answer. Breaks where the run has ended.
-    fn answer(&mut self) -> io::Result<ControlFlow<()>> {
-        let mut print = [0; PRINT_BYTES];
-        let answer = self.simulator.take(self.partial.line(), &mut print);
-        self.out.write_all(&print)?;
-        if answer.is_err_and(|denial| denial.ends_run()) {
-            return Ok(ControlFlow::Break(()));
-        }
-        Ok(ControlFlow::Continue(()))
-    }
-
-    // Takes the lines that end in a piece of the input, and holds the last one where it has not ended.
-    fn feed(&mut self, piece: &[u8]) -> io::Result<ControlFlow<()>> {
-        let mut rest = piece;
-        while let Some(count) = self.partial.fill(rest) {
-            if self.answer()?.is_break() {
-                return Ok(ControlFlow::Break(()));
-            }
-            self.partial = Partial::new();
-            rest = &rest[count..];
-        }
-        Ok(ControlFlow::Continue(()))
-    }
-
-    // Takes the last line, where it has no line feed.
-    fn finish(&mut self) -> io::Result<()> {
-        if !self.partial.line().is_empty() {
-            self.answer()?;
-        }
-        Ok(())
-    }
-
     // Takes the lines of one more piece of the input, at its end the last one too. Breaks where there is no more to do.
     fn take_piece<R: Read>(
         &mut self,
         input: &mut R,
         buffer: &mut [u8],
-    ) -> io::Result<ControlFlow<()>> {
-        let flow = match read_piece(input, buffer)? {
+    ) -> anyhow::Result<ControlFlow<()>> {
+        self.print.clear();
+        let stops = match read_piece(input, buffer)? {
             0 => {
-                self.finish()?;
-                ControlFlow::Break(())
+                self.feed.finish(&mut self.print)?;
+                true
             }
-            count => self.feed(&buffer[..count])?,
+            count => self.feed.feed(&buffer[..count], &mut self.print)?,
         };
+        self.out.write_all(&self.print)?;
         self.out.flush()?;
-        Ok(flow)
+        Ok(if stops {
+            ControlFlow::Break(())
+        } else {
+            ControlFlow::Continue(())
+        })
     }
 }
 
@@ -92,8 +66,8 @@ fn main(rt: HostRuntime) -> anyhow::Result<()> {
     let mut buffer = vec![in rt.alloc(); 0u8; READ_BYTES]?;
     let mut input = rt.stdin();
     let mut session = Session {
-        simulator: Simulator::new(&mut memory),
-        partial: Partial::new(),
+        feed: Feed::new(&mut memory),
+        print: Vec::new(rt.alloc()),
         out: BufWriter::new(rt.alloc(), rt.stdout())?,
     };
     // The same bound: no input has so many pieces.

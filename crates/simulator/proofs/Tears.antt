@@ -1,16 +1,15 @@
 -- The torn disk by its meaning: what it keeps, and what a cut leaves.
-use Rattle.std.proofs.Common.{◌≡◌, ℕ, zero, suc, ◌-◌, cond, List, [], ◌∷◌, get_or, set, is_ok, IfOk, Some, None, Ok, Err, Option, Result, sym, refl, ap, ◌∙◌, arith, MatchResult}
-use Rattle.std.proofs.lemmas.List.{set-set, set-get_or}
-use Rattle.disk.specs.Devices.{torn, before, left_sectors, torn_disk}
-use Rattle.disk.specs.Meaning.{Wrote, Cut, at}
+use Rattle.std.proofs.Common.{◌≡◌, ℕ, zero, suc, List, [], ◌∷◌, get_or, set, Some, None, Option, sym, refl, ap, ◌∙◌}
+use Rattle.disk.specs.Devices.{Stands, stands, torn, before, left_sectors, write_through}
+use Rattle.disk.specs.Meaning.{Meaning, at}
 use Rattle.disk.specs.Tearing.{torn_equal}
-use Rattle.disk.proofs.Meanings.{same_parts}
 use Rattle.disk.specs.Memory.{sectors}
-use Rattle.disk.specs.declared.fault.DiskFault.{DiskFault}
 use Rattle.disk.specs.declared.memory.MemoryDisk.{MemoryDisk}
 use Rattle.disk.specs.declared.torn.Held.{Held}
-use Rattle.simulator.specs.Devices.{torn_apart, written, cut_by}
-use Rattle.simulator.specs.declared.device.Make.TheVariants.{Torn}
+use Rattle.ring.specs.Operations.{Op, put, settle, Chain}
+use Rattle.simulator.specs.Devices.{meaning_of, make_of, device_moves, torn_apart, cut_by}
+use Rattle.simulator.specs.declared.device.Device.{Device}
+use Rattle.simulator.specs.declared.device.Device.TheVariants.{Faithful, Torn}
 
 -- the write that a torn disk holds back once bytes are written into sector i
 abbrev holding : ℕ → List ℕ → Held
@@ -35,22 +34,46 @@ left_is : (tear : ℕ) (held : Option Held) (reading : List (List ℕ)) → left
 left_is tear None reading = all_same tear reading
 left_is tear (Some h) reading = one_differs tear h.old reading h.sector
 
--- a cut leaves what the tear makes of what was kept and what was read
-pub exact_cut : (d d' : TornDisk) (tear supply : ℕ) → Cut (torn_disk d) supply (torn_disk d') → sectors d'.sectors.memory.now ≡ left_sectors tear d.held (sectors d.sectors.memory.now) → torn_disk d' ≡ cut_by Torn tear supply (torn_disk d)
-exact_cut d d' tear supply c s =
-    let r = s ∙ left_is tear d.held (sectors d.sectors.memory.now) in
-    same_parts _ _ _ _ _ _ _ _ r (c.keeps ∙ r) c.supplied c.leaves
+-- what a disk over memory means, by how it stands
+abbrev pub means : {H : Type 0} → (H → List (List ℕ) → List (List ℕ)) → Stands H → Meaning
+means before x = record { reading = x.reading; kept = before x.held x.reading; supply = x.supply; beyond = x.beyond }
 
--- a write is held back: what was read before is kept
-pub exact_write : (d d' : TornDisk) (i : ℕ) (bytes : List ℕ) → Wrote (torn_disk d) i bytes (torn_disk d') → d'.held ≡ Some (holding i d.sectors.memory.now) → torn_disk d' ≡ written Torn (torn_disk d) i bytes
-exact_write d d' i bytes w h =
-    let old = sectors d.sectors.memory.now in
-    let kept : before d'.held (sectors d'.sectors.memory.now) ≡ old =
-    ap (λ (held : Option Held). before held (sectors d'.sectors.memory.now)) h ∙ ap (λ (xs : List (List ℕ)). set xs i (at old i)) w.reads ∙ set-set old i bytes (at old i) ∙ set-get_or old i [] in
-    let spent : d'.supply ≡ d.supply - 1 = omega (arith, w.spends) in
-    same_parts _ _ _ _ _ _ _ _ w.reads kept spent w.leaves
+abbrev all_left : ℕ → List ℕ → List (List ℕ) → Meaning
+all_left supply beyond left = record { reading = left; kept = left; supply = supply; beyond = beyond }
 
--- the same, by what the disk answered
-pub exact_if_made : (d d' : TornDisk) (i : ℕ) (bytes : List ℕ) (r : Result (Unit {0}) DiskFault) → MatchResult r (λ _. Wrote (torn_disk d) i bytes (torn_disk d')) (λ _. torn_disk d' ≡ torn_disk d) → d'.held ≡ cond (is_ok r) (Some (holding i d.sectors.memory.now)) d.held → IfOk r (λ _. torn_disk d' ≡ written Torn (torn_disk d) i bytes)
-exact_if_made d d' i bytes (Ok done) w h = exact_write d d' i bytes w h
-exact_if_made d d' i bytes (Err fault) w h = tt
+-- a cut of either disk, by its own relation
+pub cut_is :
+    (d d' : Device) (tear supply : ℕ) → device_moves.cuts d tear supply d' →
+    meaning_of d' ≡ cut_by (make_of d) tear supply (meaning_of d)
+cut_is (Faithful d) (Faithful d') tear supply e = ap (means write_through.before) e
+cut_is (Torn d) (Torn d') tear supply e =
+    ap (means before) e
+    ∙ ap (all_left supply (stands d).beyond) (left_is tear d.held (stands d).reading)
+cut_is (Faithful d) (Torn d') tear supply e = absurd e
+cut_is (Torn d) (Faithful d') tear supply e = absurd e
+
+-- each call keeps the make
+pub write_keeps_make : (d d' : Device) (i : ℕ) (bytes : List ℕ) → device_moves.writes d i bytes d' → make_of d' ≡ make_of d
+write_keeps_make (Faithful d) (Faithful d') i bytes e = refl
+write_keeps_make (Torn d) (Torn d') i bytes e = refl
+write_keeps_make (Faithful d) (Torn d') i bytes e = absurd e
+write_keeps_make (Torn d) (Faithful d') i bytes e = absurd e
+
+pub flush_keeps_make : (d d' : Device) (i : ℕ) → device_moves.flushes d i d' → make_of d' ≡ make_of d
+flush_keeps_make (Faithful d) (Faithful d') i e = refl
+flush_keeps_make (Torn d) (Torn d') i e = refl
+flush_keeps_make (Faithful d) (Torn d') i e = absurd e
+flush_keeps_make (Torn d) (Faithful d') i e = absurd e
+
+pub cut_keeps_make : (d d' : Device) (tear supply : ℕ) → device_moves.cuts d tear supply d' → make_of d' ≡ make_of d
+cut_keeps_make (Faithful d) (Faithful d') tear supply e = refl
+cut_keeps_make (Torn d) (Torn d') tear supply e = refl
+cut_keeps_make (Faithful d) (Torn d') tear supply e = absurd e
+cut_keeps_make (Torn d) (Faithful d') tear supply e = absurd e
+
+-- so does any chain of operations
+pub keeps_make : (d d' : Device) (ops : List Op) → Chain device_moves d ops d' → make_of d' ≡ make_of d
+keeps_make d d' [] same = ap make_of same
+keeps_make d d' (put i bytes ∷ ops) chain =
+    keeps_make chain.0 d' ops chain.2 ∙ write_keeps_make d chain.0 i bytes chain.1
+keeps_make d d' (settle i ∷ ops) chain = keeps_make chain.0 d' ops chain.2 ∙ flush_keeps_make d chain.0 i chain.1

@@ -1,10 +1,12 @@
 -- The disks that a request file may choose, by what a disk means.
-use Rattle.std.specs.Prelude.{ℕ, ◌-◌, ◌*◌, Bool, cond, ◌&&◌, List, [], ◌∷◌, Some, None, Option, ◌==◌, nat_le, replicate, refl, slice_set}
-use Rattle.disk.specs.Devices.{faithful, torn_disk, torn}
+use Rattle.std.specs.Prelude.{ℕ, ◌-◌, ◌*◌, Bool, cond, ◌&&◌, List, [], ◌∷◌, Some, None, Option, ◌==◌, nat_le, nat_lt, replicate, refl, slice_set}
+use Rattle.disk.specs.Devices.{faithful, torn_disk, torn, memory_moves, write_through, latest_write}
 use Rattle.disk.specs.Meaning.{Meaning, Shaped, count}
 use Rattle.disk.specs.Memory.{IsSize, sectors}
+use Rattle.disk.specs.Moves.{Moves}
 use Rattle.disk.specs.Shape.{all_shaped, all_sized}
 use Rattle.disk.specs.Tearing.{before-count}
+use Rattle.ring.specs.Operations.{Op, put, settle}
 use Rattle.simulator.specs.declared.device.Device.{Device}
 use Rattle.simulator.specs.declared.device.Device.TheVariants.{Faithful, Torn}
 use Rattle.simulator.specs.declared.device.Make.{Make}
@@ -14,6 +16,28 @@ use Rattle.simulator.specs.declared.device.Make.TheVariants.{Faithful as AFaithf
 abbrev pub meaning_of : Device → Meaning
 meaning_of (Faithful d) = faithful d
 meaning_of (Torn d) = torn_disk d
+
+-- each call makes of a device the same device, as that disk's own call does
+abbrev pub device_writes : Device → ℕ → List ℕ → Device → Type 0
+device_writes (Faithful d) i bytes (Faithful d') = (memory_moves write_through).writes d i bytes d'
+device_writes (Torn d) i bytes (Torn d') = (memory_moves latest_write).writes d i bytes d'
+device_writes (Faithful d) i bytes (Torn d') = ⊥
+device_writes (Torn d) i bytes (Faithful d') = ⊥
+
+abbrev pub device_flushes : Device → ℕ → Device → Type 0
+device_flushes (Faithful d) i (Faithful d') = (memory_moves write_through).flushes d i d'
+device_flushes (Torn d) i (Torn d') = (memory_moves latest_write).flushes d i d'
+device_flushes (Faithful d) i (Torn d') = ⊥
+device_flushes (Torn d) i (Faithful d') = ⊥
+
+abbrev pub device_cuts : Device → ℕ → ℕ → Device → Type 0
+device_cuts (Faithful d) tear supply (Faithful d') = (memory_moves write_through).cuts d tear supply d'
+device_cuts (Torn d) tear supply (Torn d') = (memory_moves latest_write).cuts d tear supply d'
+device_cuts (Faithful d) tear supply (Torn d') = ⊥
+device_cuts (Torn d) tear supply (Faithful d') = ⊥
+
+abbrev pub device_moves : Moves Device
+device_moves = record { writes = device_writes; flushes = device_flushes; cuts = device_cuts }
 
 -- sectors of 32 bytes, and as many kept as are read
 pub shaped : (d : Device) → Shaped (meaning_of d)
@@ -83,3 +107,17 @@ left_by ATorn tear m = torn_apart tear m.kept m.reading
 abbrev pub cut_by : Make → ℕ → ℕ → Meaning → Meaning
 cut_by make tear supply m =
     record { reading = left_by make tear m; kept = left_by make tear m; supply = supply; beyond = m.beyond }
+
+-- whether a write or a flush of a sector succeeds
+abbrev pub succeeds : Meaning → ℕ → Bool
+succeeds m i = nat_lt i (count m) && nat_lt 0 m.supply
+
+-- a disk after an operation that is tried: one that is denied changes nothing
+abbrev pub after_try : Make → Meaning → Op → Meaning
+after_try make m (put i bytes) = cond (succeeds m i) (written make m i bytes) m
+after_try make m (settle i) = cond (succeeds m i) (settled m) m
+
+-- a disk after operations that are tried, one after the other
+unfoldable pub after_tries : Make → Meaning → List Op → Meaning
+after_tries make m [] = m
+after_tries make m (op ∷ ops) = after_tries make (after_try make m op) ops

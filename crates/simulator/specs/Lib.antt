@@ -1,11 +1,14 @@
 pub mod Answers
 pub mod Columns
 pub mod Devices
+pub mod Feeds
 pub mod Field
+pub mod Files
 pub mod Kinds
 pub mod Lines
 pub mod Print
 pub mod Request
+pub mod Requests
 pub mod Stages
 pub mod Steps
 pub mod Takes

@@ -20,7 +20,7 @@ pub data View : Type 0 where
   awaits_disk : List ℕ → View
   awaits_kind : Make → Meaning → List ℕ → View
   awaits_box : Make → Lease → Meaning → List ℕ → View
-  runs : AnyKind → State → Meaning → List ℕ → View
+  runs : Make → AnyKind → State → Meaning → List ℕ → View
   has_ended : List ℕ → View
 
 -- all bytes of a memory: the sectors of a disk, what is past them in its own part, and the spare
@@ -39,7 +39,7 @@ abbrev pub view : Stage → View
 view (stage.Device memory) = awaits_disk memory.now
 view (stage.Kind disk spare) = awaits_kind (make_of disk) (meaning_of disk) spare.now
 view (stage.Box disk spare lease) = awaits_box (make_of disk) lease (meaning_of disk) spare.now
-view (stage.Running server spare) = runs server.kind server.state (meaning_of server.disk) spare.now
+view (stage.Running server spare) = runs (make_of server.disk) server.kind server.state (meaning_of server.disk) spare.now
 view (stage.Ended left) = has_ended (left_memory left)
 
 -- the memory at a stage
@@ -47,7 +47,7 @@ abbrev pub memory_of : View → List ℕ
 memory_of (awaits_disk memory) = memory
 memory_of (awaits_kind make m spare) = bytes_of m spare
 memory_of (awaits_box make lease m spare) = bytes_of m spare
-memory_of (runs kind state m spare) = bytes_of m spare
+memory_of (runs make kind state m spare) = bytes_of m spare
 memory_of (has_ended memory) = memory
 
 -- the run ends: the memory is left
@@ -57,9 +57,9 @@ closed v = has_ended (memory_of v)
 -- a server is put together over the disk
 abbrev pub started : AnyKind → View → View
 started kind (awaits_disk memory) = awaits_disk memory
-started kind (awaits_kind make m spare) = runs kind (woken (numbering_of kind) m) m spare
-started kind (awaits_box make lease m spare) = runs kind (woken (numbering_of kind) m) m spare
-started kind (runs other state m spare) = runs other state m spare
+started kind (awaits_kind make m spare) = runs make kind (woken (numbering_of kind) m) m spare
+started kind (awaits_box make lease m spare) = runs make kind (woken (numbering_of kind) m) m spare
+started kind (runs make other state m spare) = runs make other state m spare
 started kind (has_ended memory) = has_ended memory
 
 -- the lease is known
@@ -67,5 +67,5 @@ abbrev pub leased : Lease → View → View
 leased lease (awaits_disk memory) = awaits_disk memory
 leased lease (awaits_kind make m spare) = awaits_box make lease m spare
 leased lease (awaits_box make old m spare) = awaits_box make old m spare
-leased lease (runs kind state m spare) = runs kind state m spare
+leased lease (runs make kind state m spare) = runs make kind state m spare
 leased lease (has_ended memory) = has_ended memory

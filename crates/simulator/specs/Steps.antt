@@ -1,5 +1,5 @@
 -- What a request line does: what it is answered, and the stage after it.
-use Rattle.std.specs.Prelude.{◌≡◌, ℕ, ◌*◌, min, cond, List, length, drop, Some, None, Ok, Err, Option, Result}
+use Rattle.std.specs.Prelude.{ℕ, ◌*◌, min, cond, List, length, drop, Some, None, Ok, Err, Option, Result}
 use Rattle.disk.specs.Meaning.{Meaning}
 use Rattle.kind.specs.Serial.{serial_kind_of}
 use Rattle.kind.specs.Time.{lease_of, correction_of, time_kind_of}
@@ -11,12 +11,13 @@ use Rattle.kind.specs.declared.time.TimeKind.{TimeKind}
 use Rattle.record.specs.declared.numbers.Identifier.{Identifier}
 use Rattle.record.specs.declared.numbers.Sequence.{Sequence}
 use Rattle.ring.specs.Ring.{recovered}
-use Rattle.server.specs.Rules.{format, woken, top_told, Gave}
+use Rattle.server.specs.Rules.{format, woken, top_told}
 use Rattle.server.specs.declared.fault.ServerFault.{ServerFault}
 use Rattle.server.specs.declared.state.State.{State}
 use Rattle.simulator.specs.Devices.{cleared, make_for, room, cut_by}
 use Rattle.simulator.specs.Kinds.{numbering_of}
 use Rattle.simulator.specs.Request.{command_in, fields_in}
+use Rattle.simulator.specs.Requests.{LeftBy, given_by}
 use Rattle.simulator.specs.Stages.{View, awaits_disk, awaits_kind, awaits_box, runs, has_ended, started, leased}
 use Rattle.simulator.specs.declared.answer.Answer.{Answer}
 use Rattle.simulator.specs.declared.answer.Answer.TheVariants.{Set, Given, Woken}
@@ -74,56 +75,6 @@ abbrev pub with_correction : View → Lease → ℕ → Result Correction Settin
 with_correction v lease box (Err fault) = denied (Setting fault) v
 with_correction v lease box (Ok correction) = with_time v (time_kind_of lease box correction)
 
--- what a line asks for: something that is settled by the line itself; a request; or a cut
-pub data Asked : Type 0 where
-  settles : Done → Asked
-  gives : AnyKind → State → Meaning → List ℕ → Fields → Asked
-  cuts : AnyKind → State → Meaning → List ℕ → Fields → Asked
-
--- a letter that is not lawful at a stage
-abbrev pub unlawful : View → Asked
-unlawful v = settles (denied (Malformed Letter) v)
-
--- a line whose fields are wrong is denied; else it asks for what they say
-abbrev pub by_fields : View → (Fields → Asked) → Result Fields Item → Asked
-by_fields v ask (Err item) = settles (denied (Malformed item) v)
-by_fields v ask (Ok f) = ask f
-
--- which letters are lawful at a stage, and what each asks for there
-abbrev pub asked : View → Option Command → List ℕ → Asked
-asked (awaits_disk memory) None line = unlawful (awaits_disk memory)
-asked (awaits_disk memory) (Some Disk) line = by_fields (awaits_disk memory) (λ f. settles (opened memory f)) (fields_in Disk line)
-asked (awaits_disk memory) (Some Serial) line = unlawful (awaits_disk memory)
-asked (awaits_disk memory) (Some Time) line = unlawful (awaits_disk memory)
-asked (awaits_disk memory) (Some Box) line = unlawful (awaits_disk memory)
-asked (awaits_disk memory) (Some Give) line = unlawful (awaits_disk memory)
-asked (awaits_disk memory) (Some Cut) line = unlawful (awaits_disk memory)
-asked (awaits_kind make m spare) None line = unlawful (awaits_kind make m spare)
-asked (awaits_kind make m spare) (Some Disk) line = unlawful (awaits_kind make m spare)
-asked (awaits_kind make m spare) (Some Serial) line =
-    by_fields (awaits_kind make m spare) (λ f. settles (with_serial (awaits_kind make m spare) (serial_kind_of f.a))) (fields_in Serial line)
-asked (awaits_kind make m spare) (Some Time) line =
-    by_fields (awaits_kind make m spare) (λ f. settles (with_lease (awaits_kind make m spare) (lease_of f.a))) (fields_in Time line)
-asked (awaits_kind make m spare) (Some Box) line = unlawful (awaits_kind make m spare)
-asked (awaits_kind make m spare) (Some Give) line = unlawful (awaits_kind make m spare)
-asked (awaits_kind make m spare) (Some Cut) line = unlawful (awaits_kind make m spare)
-asked (awaits_box make lease m spare) None line = unlawful (awaits_box make lease m spare)
-asked (awaits_box make lease m spare) (Some Disk) line = unlawful (awaits_box make lease m spare)
-asked (awaits_box make lease m spare) (Some Serial) line = unlawful (awaits_box make lease m spare)
-asked (awaits_box make lease m spare) (Some Time) line = unlawful (awaits_box make lease m spare)
-asked (awaits_box make lease m spare) (Some Box) line =
-    by_fields (awaits_box make lease m spare) (λ f. settles (with_correction (awaits_box make lease m spare) lease f.a (correction_of f.b))) (fields_in Box line)
-asked (awaits_box make lease m spare) (Some Give) line = unlawful (awaits_box make lease m spare)
-asked (awaits_box make lease m spare) (Some Cut) line = unlawful (awaits_box make lease m spare)
-asked (runs kind state m spare) None line = unlawful (runs kind state m spare)
-asked (runs kind state m spare) (Some Disk) line = unlawful (runs kind state m spare)
-asked (runs kind state m spare) (Some Serial) line = unlawful (runs kind state m spare)
-asked (runs kind state m spare) (Some Time) line = unlawful (runs kind state m spare)
-asked (runs kind state m spare) (Some Box) line = unlawful (runs kind state m spare)
-asked (runs kind state m spare) (Some Give) line = by_fields (runs kind state m spare) (gives kind state m spare) (fields_in Give line)
-asked (runs kind state m spare) (Some Cut) line = by_fields (runs kind state m spare) (cuts kind state m spare) (fields_in Cut line)
-asked (has_ended memory) command line = settles (denied Ended (has_ended memory))
-
 -- what a request of a series is answered with
 abbrev pub given : ℕ → Result Identifier ServerFault → Result Answer Denial
 given series (Ok identifier) = Ok (Given series identifier)
@@ -134,39 +85,55 @@ abbrev pub woken_up : Result Sequence ServerFault → Result Answer Denial
 woken_up (Ok top) = Ok (Woken top)
 woken_up (Err fault) = Err (NotWoken fault)
 
--- a request: the server's rules give the answer, its state and its disk; a series above 255 is asked for as 255
-pub record Gives (kind : AnyKind) (state : State) (m : Meaning) (spare : List ℕ) (f : Fields) (r : Result Answer Denial) (after : View) : Type 0 where
-  pub answer : Result Identifier ServerFault
-  pub state' : State
-  pub meaning' : Meaning
-  pub gave : Gave (numbering_of kind) state m (min f.a 255) (record { 0 = f.b }) answer state' meaning'
-  pub answers : r ≡ given f.a answer
-  pub goes : after ≡ runs kind state' meaning' spare
-
--- an answer and the stage after it, as they are settled
-pub record Comes (done : Done) (r : Result Answer Denial) (after : View) : Type 0 where
-  pub answers : r ≡ done.answer
-  pub goes : after ≡ done.after
-
 -- a server wakes on a disk
-abbrev pub woken_on : AnyKind → List ℕ → Meaning → Done
-woken_on kind spare m =
+abbrev pub woken_on : Make → AnyKind → List ℕ → Meaning → Done
+woken_on make kind spare m =
     record {
       answer = woken_up (top_told (recovered (format (numbering_of kind) m) m.reading));
-      after = runs kind (woken (numbering_of kind) m) m spare;
+      after = runs make kind (woken (numbering_of kind) m) m spare;
     }
 
--- a cut with a tear and a new supply: the server wakes on what one of the two disks then is
-pub record Cuts (kind : AnyKind) (m : Meaning) (spare : List ℕ) (f : Fields) (r : Result Answer Denial) (after : View) : Type 0 where
-  pub make : Make
-  pub wakes : Comes (woken_on kind spare (cut_by make f.a f.b m)) r after
+-- a cut with a tear and a new supply: the server wakes on what the disk then is
+abbrev pub cut_off : Make → AnyKind → Meaning → List ℕ → Fields → Done
+cut_off make kind m spare f = woken_on make kind spare (cut_by make f.a f.b m)
 
--- what is asked for is done
-abbrev pub Does : Asked → Result Answer Denial → View → Type 0
-Does (settles done) r after = Comes done r after
-Does (gives kind state m spare f) r after = Gives kind state m spare f r after
-Does (cuts kind state m spare f) r after = Cuts kind m spare f r after
+-- a request's answer, with the stage after it
+abbrev pub request_done : Make → AnyKind → List ℕ → ℕ → LeftBy Identifier → Done
+request_done make kind spare series left =
+    record { answer = given series left.answer; after = runs make kind left.state left.disk spare }
+
+-- a request at a reading; a series above 255 is asked for as 255
+abbrev pub requested : Make → AnyKind → State → Meaning → List ℕ → Fields → Done
+requested make kind state m spare f =
+    request_done make kind spare f.a (given_by make (numbering_of kind) state m (min f.a 255) (record { 0 = f.b }))
+
+-- a letter that is not lawful at a stage
+abbrev pub unlawful : View → Done
+unlawful v = denied (Malformed Letter) v
+
+-- a line whose fields are wrong is denied; else it does what they say
+abbrev pub by_fields : View → (Fields → Done) → Result Fields Item → Done
+by_fields v does (Err item) = denied (Malformed item) v
+by_fields v does (Ok f) = does f
+
+-- which letters are lawful at a stage, and what each does there, by the fields of the line
+abbrev pub asked : View → Option Command → (Command → Result Fields Item) → Done
+asked (awaits_disk memory) (Some Disk) fields = by_fields (awaits_disk memory) (opened memory) (fields Disk)
+asked (awaits_kind make m spare) (Some Serial) fields =
+    by_fields (awaits_kind make m spare) (λ f. with_serial (awaits_kind make m spare) (serial_kind_of f.a)) (fields Serial)
+asked (awaits_kind make m spare) (Some Time) fields =
+    by_fields (awaits_kind make m spare) (λ f. with_lease (awaits_kind make m spare) (lease_of f.a)) (fields Time)
+asked (awaits_box make lease m spare) (Some Box) fields =
+    by_fields (awaits_box make lease m spare)
+    (λ f. with_correction (awaits_box make lease m spare) lease f.a (correction_of f.b))
+    (fields Box)
+asked (runs make kind state m spare) (Some Give) fields =
+    by_fields (runs make kind state m spare) (requested make kind state m spare) (fields Give)
+asked (runs make kind state m spare) (Some Cut) fields =
+    by_fields (runs make kind state m spare) (cut_off make kind m spare) (fields Cut)
+asked (has_ended memory) command fields = denied Ended (has_ended memory)
+asked v command fields = unlawful v
 
 -- a line that is taken at a stage: what it is answered, and the stage after it
-abbrev pub Steps : View → List ℕ → Result Answer Denial → View → Type 0
-Steps v line r after = Does (asked v (command_in line) line) r after
+abbrev pub step_of : View → List ℕ → Done
+step_of v line = asked v (command_in line) (λ command. fields_in command line)

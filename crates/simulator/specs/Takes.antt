@@ -1,14 +1,15 @@
 -- The call of the simulator: what it answers, and what it leaves of the run, of the memory and of the print line.
-use Rattle.std.specs.Prelude.{◌≡◌, ℕ, ◌+◌, ◌-◌, ◌^◌, min, cond, List, [], ◌++◌, length, drop, Ok, Err, MatchBool, Result, nat_le}
+use Rattle.std.specs.Prelude.{ℕ, ◌+◌, ◌-◌, ◌^◌, min, cond, List, [], ◌++◌, length, drop, Ok, Err, Result, nat_le}
 use Rattle.simulator.specs.Answers.{ends, columns_of}
 use Rattle.simulator.specs.Print.{printed}
-use Rattle.simulator.specs.Stages.{View, closed}
-use Rattle.simulator.specs.Steps.{Steps, Comes, denied}
+use Rattle.simulator.specs.Stages.{View, view, closed}
+use Rattle.simulator.specs.Steps.{Done, denied, step_of}
 use Rattle.simulator.specs.declared.answer.Answer.{Answer}
 use Rattle.simulator.specs.declared.answer.Denial.{Denial}
 use Rattle.simulator.specs.declared.answer.Denial.TheVariants.{ShortPrint, TooMany}
 use Rattle.simulator.specs.declared.device.Device.{Device}
 use Rattle.simulator.specs.declared.device.Device.TheVariants.{Faithful, Torn}
+use Rattle.simulator.specs.declared.simulator.Simulator.{Simulator}
 use Rattle.simulator.specs.declared.stage.Left.{Left}
 use Rattle.simulator.specs.declared.stage.Left.TheVariants as left
 use Rattle.simulator.specs.declared.stage.Stage.{Stage}
@@ -27,32 +28,51 @@ abbrev pub finished : Result Answer Denial → View → View
 finished (Ok answer) v = v
 finished (Err denial) v = cond (ends denial) (closed v) v
 
--- a line by its number: past 999,999 it is denied, else it does what it says; and the run ends where it has to
-pub record Answered (v : View) (taken : ℕ) (line : List ℕ) (r : Result Answer Denial) (after : View) : Type 0 where
-  pub stepped : View
-  pub steps :
-      MatchBool (nat_le taken 999999) (Steps v line r stepped) (Comes (denied TooMany v) r stepped)
-  pub finishes : after ≡ finished r stepped
+-- a line by its number: past 999,999 it is denied, else it does what it says
+abbrev pub numbered : ℕ → View → List ℕ → Done
+numbered number v line = cond (nat_le number 999999) (step_of v line) (denied TooMany v)
 
--- a line that is not taken: nothing changes
-pub record NotTaken (v : View) (taken : ℕ) (print : List ℕ) (r : Result Answer Denial) (after : View) (taken' : ℕ) (print' : List ℕ) : Type 0 where
-  pub answers : r ≡ Err ShortPrint
-  pub stays : after ≡ v
-  pub counts : taken' ≡ taken
-  pub prints : print' ≡ print
+-- and the run ends where it has to
+abbrev pub ended_by : Done → Done
+ended_by done = record { answer = done.answer; after = finished done.answer done.after }
 
--- a line that is taken: it counts, and its answer is written into the first 34 bytes of the print line
-pub record Taken (v : View) (taken : ℕ) (line print : List ℕ) (r : Result Answer Denial) (after : View) (taken' : ℕ) (print' : List ℕ) : Type 0 where
-  pub counts : taken' ≡ counted taken
-  pub answers : Answered v (counted taken) line r after
-  pub prints : print' ≡ printed (shown_number taken') (columns_of r) ++ drop 34 print
+-- where a run stands: its stage, and how many lines were taken
+pub record Run : Type 0 where
+  pub view : View
+  pub taken : ℕ
 
--- a print line of fewer than 34 bytes is denied ahead of all else
-abbrev pub Takes : View → ℕ → List ℕ → List ℕ → Result Answer Denial → View → ℕ → List ℕ → Type 0
-Takes v taken line print r after taken' print' =
-    MatchBool (nat_le 34 (length print))
-    (Taken v taken line print r after taken' print')
-    (NotTaken v taken print r after taken' print')
+abbrev pub run_of : Simulator → Run
+run_of s = record { view = view s.stage; taken = s.taken }
+
+-- what a line does of a run: it counts
+abbrev pub line_done : Run → List ℕ → Done
+line_done run line = ended_by (numbered (counted run.taken) run.view line)
+
+-- the run after a line
+abbrev pub run_after : Run → Done → Run
+run_after run done = record { view = done.after; taken = counted run.taken }
+
+-- the print line of a line
+abbrev pub print_of : Run → Done → List ℕ
+print_of run done = printed (shown_number (counted run.taken)) (columns_of done.answer)
+
+-- a call of the simulator: what it answers, and what it leaves of the run and of the print line
+pub record Taken : Type 0 where
+  pub answer : Result Answer Denial
+  pub run : Run
+  pub print : List ℕ
+
+-- a line that is taken: its answer is written into the first 34 bytes of the print line
+abbrev pub as_done : Run → List ℕ → Done → Taken
+as_done run print done =
+    record { answer = done.answer; run = run_after run done; print = print_of run done ++ drop 34 print }
+
+-- a print line of fewer than 34 bytes is denied ahead of all else, and nothing changes
+abbrev pub taken_by : Run → List ℕ → List ℕ → Taken
+taken_by run line print =
+    cond (nat_le 34 (length print))
+    (as_done run print (line_done run line))
+    (record { answer = Err ShortPrint; run = run; print = print })
 
 -- the very bytes of the memory of a disk
 abbrev pub device_bytes : Device → List ℕ

@@ -4,7 +4,7 @@ ghost use Rattle.disk.specs.Meaning.{answer_of, Wrote, Flushed, Cut};
 ghost use Rattle.disk.specs.Devices.{memory_disk};
 ghost use Rattle.disk.specs.Memory.{right_size};
 ghost use Rattle.disk.specs.declared.fault.Operation.TheVariants.{Write, Flush};
-ghost use Rattle.simulator.specs.Devices.{meaning_of, shaped, sized, make_of, room, cleared, written, settled, cut_by};
+ghost use Rattle.simulator.specs.Devices.{meaning_of, device_moves, shaped, sized, make_of, room, cleared, written, settled, cut_by};
 
 use disk::{Disk, DiskFault, FaithfulDisk, HoldBack, MemoryDisk, TornDisk};
 use record::SECTOR_BYTES;
@@ -26,12 +26,11 @@ pub enum Device<'a> {
 // How many writes and flushes succeed on a disk that is new.
 const FIRST_SUPPLY: u64 = 1_000_000;
 
-// Each method matches for itself: there is no heap for a box of either disk. Each says that the make stays, since that ties
-// two values of this type together, which an invariant of one cannot.
+// Each method matches for itself: there is no heap for a box of either disk.
 impl Disk for Device<'_> {
     ghost meaning = { meaning_of };
 
-    ghost after_cut = { λ device tear supply. cut_by (make_of device) tear supply (meaning_of device) };
+    ghost moves = { device_moves };
 
     ghost shaped = { shaped };
 
@@ -51,35 +50,21 @@ impl Disk for Device<'_> {
         }
     }
 
-    fn write(&mut self, sector: usize, bytes: &[u8; SECTOR_BYTES]) -> Result<(), DiskFault>
-        ensures answer { result ≡ answer_of Write (meaning_of self.old) sector }
-        ensures effect { MatchResult result (λ _. Wrote (meaning_of self.old) sector bytes.now (meaning_of self.new)) (λ _. meaning_of self.new ≡ meaning_of self.old) }
-        ensures exact { OnOk result (meaning_of self.new ≡ written (make_of self.old) (meaning_of self.old) sector bytes.now) }
-        ensures make { make_of self.new ≡ make_of self.old }
-    {
+    fn write(&mut self, sector: usize, bytes: &[u8; SECTOR_BYTES]) -> Result<(), DiskFault> {
         match self {
             Device::Faithful(disk) => disk.write(sector, bytes),
             Device::Torn(disk) => disk.write(sector, bytes),
         }
     }
 
-    fn flush(&mut self, sector: usize) -> Result<(), DiskFault>
-        ensures answer { result ≡ answer_of Flush (meaning_of self.old) sector }
-        ensures effect { MatchResult result (λ _. Flushed (meaning_of self.old) (meaning_of self.new)) (λ _. meaning_of self.new ≡ meaning_of self.old) }
-        ensures exact { OnOk result (meaning_of self.new ≡ settled (meaning_of self.old)) }
-        ensures make { make_of self.new ≡ make_of self.old }
-    {
+    fn flush(&mut self, sector: usize) -> Result<(), DiskFault> {
         match self {
             Device::Faithful(disk) => disk.flush(sector),
             Device::Torn(disk) => disk.flush(sector),
         }
     }
 
-    fn cut(&mut self, tear: u64, supply: u64)
-        ensures meaning { Cut (meaning_of self.old) supply (meaning_of self.new) }
-        ensures exact { meaning_of self.new ≡ cut_by (make_of self.old) tear supply (meaning_of self.old) }
-        ensures make { make_of self.new ≡ make_of self.old }
-    {
+    fn cut(&mut self, tear: u64, supply: u64) {
         match self {
             Device::Faithful(disk) => disk.cut(tear, supply),
             Device::Torn(disk) => disk.cut(tear, supply),

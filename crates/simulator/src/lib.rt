@@ -4,7 +4,9 @@
 mod answer;
 mod any_kind;
 mod device;
+mod feed;
 mod field;
+mod file;
 mod partial;
 mod print;
 mod request;
@@ -12,6 +14,8 @@ mod simulator;
 mod stage;
 
 pub use answer::{Answer, Columns, Denial, columns_of};
+pub use feed::Feed;
+pub use file::print_file;
 pub use partial::Partial;
 pub use print::PRINT_BYTES;
 pub use request::Item;

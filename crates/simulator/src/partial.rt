@@ -1,6 +1,8 @@
 // A line that is being read: what has to be held of it.
 ghost use Rattle.std.specs.Prelude.{◌≤◌};
 
+use crate::file::line_end;
+
 // A request line has 21 bytes. One byte more shows that a line is too long, and what follows tells nothing.
 const HELD_BYTES: usize = 22;
 
@@ -35,24 +37,13 @@ impl Partial {
         self.count += more;
     }
 
-    // Where the first line ends: the count of its bytes, with the line feed.
-    fn line_end(input: &[u8]) -> Option<usize>
-        ensures end { result ≡ line_end input.now }
-        ensures within { IfSome result (λ n. (1 ≤ n) × (n ≤ length input.now)) }
-    {
-        input
-            .iter()
-            .position(|byte| *byte == b'\n')
-            .map(|at| at + 1)
-    }
-
     // Holds the bytes up to the first line feed, and tells how many they are; or all of them, where no line feed comes.
     pub fn fill(&mut self, input: &[u8]) -> Option<usize>
         ensures end { result ≡ line_end input.now }
         ensures within { IfSome result (λ n. (1 ≤ n) × (n ≤ length input.now)) }
         ensures holds { held self.new ≡ take 22 (held self.old ++ first_bytes input.now) }
     {
-        let end = Partial::line_end(input);
+        let end = line_end(input);
         match end {
             Some(count) => self.hold(&input[..count]),
             None => self.hold(input),

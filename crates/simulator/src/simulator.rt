@@ -1,10 +1,10 @@
 // The simulator: one call, a request line in and a print line out.
 ghost use Rattle.std.specs.Prelude.{◌≡◌, ℕ, min, List};
 ghost use Rattle.simulator.specs.Columns.{NumbersInColumns};
-ghost use Rattle.simulator.specs.Devices.{meaning_of};
+ghost use Rattle.simulator.specs.Devices.{meaning_of, make_of};
 ghost use Rattle.simulator.specs.Stages.{view, awaits_disk, memory_of, runs};
-ghost use Rattle.simulator.specs.Steps.{Steps, Gives};
-ghost use Rattle.simulator.specs.Takes.{Takes, Answered, stage_bytes};
+ghost use Rattle.simulator.specs.Steps.{step_of, requested};
+ghost use Rattle.simulator.specs.Takes.{run_of, taken_by, numbered, ended_by, stage_bytes};
 
 use crate::answer::{Answer, Denial, columns_of};
 use crate::any_kind::AnyKind;
@@ -36,8 +36,9 @@ fn asked_series(series: u64) -> u8
 }
 
 // A request of a series at a reading.
+#[tactic(auto, using(crate::proofs::Tears::keeps_make))]
 fn ask(server: &mut Server<Device<'_>, AnyKind>, fields: Fields) -> Result<Answer, Denial>
-    ensures { (spare : List ℕ) → Gives server.old.kind server.old.state (meaning_of server.old.disk) spare fields result (runs server.new.kind server.new.state (meaning_of server.new.disk) spare) }
+    ensures { (spare : List ℕ) → record { answer = result; after = runs (make_of server.new.disk) server.new.kind server.new.state (meaning_of server.new.disk) spare } ≡ requested (make_of server.old.disk) server.old.kind server.old.state (meaning_of server.old.disk) spare fields }
 {
     let series = fields.a;
     server
@@ -61,7 +62,7 @@ impl<'a> Simulator<'a> {
     // Takes a request line: writes the first 34 bytes of the print line, and tells what the line was answered with. With a print
     // line of fewer bytes it is denied, and nothing changes.
     pub fn take(&mut self, line: &[u8], print: &mut [u8]) -> Result<Answer, Denial>
-        ensures takes { Takes (view self.old.stage) self.old.taken line.now print.old result (view self.new.stage) self.new.taken print.new }
+        ensures takes { record { answer = result; run = run_of self.new; print = print.new } ≡ taken_by (run_of self.old) line.now print.old }
         ensures memory { stage_bytes self.new.stage ≡ memory_of (view self.new.stage) }
         ensures numbers { NumbersInColumns }
     {
@@ -77,7 +78,7 @@ impl<'a> Simulator<'a> {
     // What a line that is counted does, and the end of the run where it brings that.
     fn answer(&mut self, line: &[u8]) -> Result<Answer, Denial>
         ensures count { self.new.taken ≡ self.old.taken }
-        ensures answers { Answered (view self.old.stage) self.old.taken line.now result (view self.new.stage) }
+        ensures answers { record { answer = result; after = view self.new.stage } ≡ ended_by (numbered self.old.taken (view self.old.stage) line.now) }
     {
         let answer = if self.taken > LAST_LINE {
             Err(Denial::TooMany)
@@ -90,9 +91,10 @@ impl<'a> Simulator<'a> {
 
     // What a line does, by the stage and the command that its letter stands for. They are matched in place, since a stage passed
     // by value takes 14% longer a line.
+    #[tactic(auto, using(crate::proofs::Tears::cut_is, crate::proofs::Tears::cut_keeps_make))]
     fn step(&mut self, line: &[u8]) -> Result<Answer, Denial>
         ensures count { self.new.taken ≡ self.old.taken }
-        ensures steps { Steps (view self.old.stage) line.now result (view self.new.stage) }
+        ensures steps { record { answer = result; after = view self.new.stage } ≡ step_of (view self.old.stage) line.now }
     {
         match (&mut self.stage, command_in(line)) {
             (Stage::Ended(_), _) => Err(Denial::Ended),

@@ -2,16 +2,15 @@
 use Rattle.std.proofs.Common.{◌≡◌, ℕ, zero, suc, ◌+◌, ◌<◌, false, List, [], ◌∷◌, length, set, replicate, Some, None, Ok, Err, Result, sym, refl, ◌∙◌, subst, inl, arith, lit<, rules}
 use Rattle.record.specs.Crc.{crc, register, feed, shifts, shift}
 use Rattle.record.specs.Sector.{sound, little, content, encoded, body, bytes_of, parts, all_zero}
-use Rattle.record.specs.declared.numbers.Identifier.{Identifier}
-use Rattle.record.specs.declared.numbers.Rank.{Rank}
 use Rattle.record.specs.declared.sector.Format.{Format}
 use Rattle.disk.specs.Meaning.{Meaning, at, Wrote, Flushed, Cut}
 use Rattle.disk.specs.Devices.{before}
 use Rattle.disk.specs.Tearing.{cut_by_tear}
 use Rattle.disk.specs.declared.torn.Held.{Held}
-use Rattle.kind.specs.Meaning.{Numbering, LawfulKind}
+use Rattle.kind.specs.Meaning.{LawfulKind}
 use Rattle.ring.specs.Left.{Recovers}
-use Rattle.ring.specs.Operations.{performed, outcome}
+use Rattle.disk.specs.Moves.{anything}
+use Rattle.ring.specs.Operations.{tried, performed, outcome}
 use Rattle.ring.specs.Ring.{slot, top, top_below, live, live_below, known, is_foreign, foreign_below, plan, Sized}
 use Rattle.ring.specs.Search.{Ended, refusal}
 use Rattle.ring.specs.declared.fault.RingFault.{RingFault}
@@ -19,7 +18,7 @@ use Rattle.ring.specs.declared.ring.Ring.{Ring}
 use Rattle.ring.specs.declared.token.Reserved.{Reserved}
 use Rattle.ring.proofs.Starts.{recovers_agrees}
 use Rattle.server.specs.Promise.{Reached, begun, gave, was_cut}
-use Rattle.server.specs.Rules.{format, block_end, Answered, Reserving}
+use Rattle.server.specs.Rules.{format, Range, Answered, Reserving}
 use Rattle.server.specs.declared.fault.ServerFault.{ServerFault}
 use Rattle.server.specs.declared.state.State.{State}
 use Rattle.server.specs.declared.state.State.TheVariants.{Up as Awake, Down}
@@ -49,10 +48,10 @@ not_some x e = let z : ◌≡◌ {A = ℕ} 0 1 = cc in omega arith
 
 -- a reservation that nothing refuses
 reserving_by :
-    {k : Numbering} {u : Up} {m : Meaning} {s : ℕ} {rank : Rank} {r : Result Identifier ServerFault} {after : State} {m' : Meaning} (ring : Ring) (answer : Result Reserved RingFault) →
-    None ≡ refusal u.ring.format u.ring.known.top.0 s (block_end k rank) →
-    Ended u.ring.format s (block_end k rank) m answer ring m' →
-    Answered k u s rank ring answer r after → Reserving k u m s rank r after m'
+    {A : Type 0} {u : Up} {m : Meaning} {s first n : ℕ} {claimed : Range} {given : A} {r : Result A ServerFault} {after : State} {m' : Meaning} (ring : Ring) (answer : Result Reserved RingFault) →
+    None ≡ refusal u.ring.format u.ring.known.top.0 s (record { 0 = claimed.end }) →
+    Ended u.ring.format s (record { 0 = claimed.end }) m answer ring m' →
+    Answered u s first n given ring answer r after → Reserving u m s first n claimed given r after m'
 reserving_by ring answer passes ended answered =
     record {
       ring = ring;
@@ -74,7 +73,7 @@ ring_of reading = record { format = f; known = known f reading }
 
 abbrev up_at : List (List ℕ) → ℕ → Up
 up_at reading n =
-    record { ring = ring_of reading; nexts = set (replicate 8 (record { 0 = 0 })) 2 (record { 0 = n }) }
+    record { ring = ring_of reading; blocks = set (replicate 8 (record { next = record { 0 = 0 }; end = record { 0 = 0 } })) 2 (record { next = record { 0 = n }; end = record { 0 = n } }) }
 
 sized : (reading : List (List ℕ)) → length reading ≡ 10 → Sized f reading
 sized reading e =
@@ -120,11 +119,12 @@ ended_first =
       goes = (_, puts start 1 (written 1) 2 refl, (_, settles _ 1 refl, refl));
     }
 
-reached_first : Reached one_by_one start (first ∷ []) (Awake (up_at with_one 1)) after_first
-unfolding live live_below top top_below foreign_below slot content sound little crc register feed shifts shift encoded body bytes_of parts all_zero
+reached_first : Reached anything (λ m. m) one_by_one start (first ∷ []) (Awake (up_at with_one 1)) after_first
+unfolding plan tried live live_below top top_below foreign_below slot content sound little crc register feed shifts shift encoded body bytes_of parts all_zero
 reached_first =
-    gave begun
+    gave {d' = after_first} {s = 2} {reading = record { 0 = 0 }} begun
     (reserving_by (ring_of with_one) (Ok (record { series = 2; end = record { 0 = 1 } })) refl ended_first (refl, refl))
+    (after_first, tt, (after_first, tt, refl))
 
 -- record 2 is written, and its flush goes dark
 ended_second : Ended f 2 (record { 0 = 2 }) after_first (Err stop) (ring_of with_two) after_second
@@ -137,11 +137,12 @@ ended_second =
       goes = (_, puts after_first 2 (written 2) 0 refl, refl);
     }
 
-reached_second : Reached one_by_one start (second ∷ first ∷ []) (Down stop) after_second
-unfolding live live_below top top_below foreign_below slot content sound little crc register feed shifts shift encoded body bytes_of parts all_zero
+reached_second : Reached anything (λ m. m) one_by_one start (second ∷ first ∷ []) (Down stop) after_second
+unfolding plan tried live live_below top top_below foreign_below slot content sound little crc register feed shifts shift encoded body bytes_of parts all_zero
 reached_second =
-    gave reached_first
+    gave {d' = after_second} {s = 2} {reading = record { 0 = 0 }} reached_first
     (reserving_by (ring_of with_two) (Err stop) refl ended_second (refl, refl))
+    (after_second, tt, (after_second, tt, refl))
 
 -- the cut leaves what a torn disk leaves: the first 20 bytes of record 2
 pub torn_inside : TornInside
@@ -157,9 +158,9 @@ cut_left =
     (λ (left : List (List ℕ)). Cut (record { reading = with_two; kept = before (Some half) with_two; supply = 0; beyond = [] }) 9 (record { reading = left; kept = left; supply = 9; beyond = [] }))
     torn_inside.0 (cut_by_tear (Some half) 20 0 9 with_two [])
 
-reached_cut : Reached one_by_one start (power_cut ∷ second ∷ first ∷ []) (Awake (up_at with_part 1)) after_cut
-unfolding live live_below top top_below foreign_below slot content sound little crc register feed shifts shift encoded body bytes_of parts all_zero
-reached_cut = was_cut reached_second (record { left = cut_left; state = refl; told = refl })
+reached_cut : Reached anything (λ m. m) one_by_one start (power_cut ∷ second ∷ first ∷ []) (Awake (up_at with_part 1)) after_cut
+unfolding plan tried live live_below top top_below foreign_below slot content sound little crc register feed shifts shift encoded body bytes_of parts all_zero
+reached_cut = was_cut reached_second (record { left = cut_left; state = refl; told = refl }) tt
 
 -- record 2 is written and flushed
 ended_third : Ended f 2 (record { 0 = 2 }) after_cut (Ok (record { series = 2; end = record { 0 = 2 } })) (ring_of with_two) after_third
@@ -173,9 +174,10 @@ ended_third =
     }
 
 pub reached : WorkedHistory
-unfolding live live_below top top_below foreign_below slot content sound little crc register feed shifts shift encoded body bytes_of parts all_zero
+unfolding plan tried live live_below top top_below foreign_below slot content sound little crc register feed shifts shift encoded body bytes_of parts all_zero
 reached = (
   Awake (up_at with_two 2),
-  gave reached_cut
-      (reserving_by (ring_of with_two) (Ok (record { series = 2; end = record { 0 = 2 } })) refl ended_third (refl, refl)),
+  gave {d' = after_third} {s = 2} {reading = record { 0 = 0 }} reached_cut
+      (reserving_by (ring_of with_two) (Ok (record { series = 2; end = record { 0 = 2 } })) refl ended_third (refl, refl))
+      (after_third, tt, (after_third, tt, refl)),
 )

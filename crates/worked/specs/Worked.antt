@@ -5,6 +5,7 @@ use Rattle.record.specs.Sector.{sound, encoded}
 use Rattle.record.specs.declared.sector.Record.{Record}
 use Rattle.disk.specs.Devices.{mixture, left_sectors}
 use Rattle.disk.specs.Meaning.{Meaning, at, denied}
+use Rattle.disk.specs.Moves.{anything}
 use Rattle.disk.specs.declared.fault.Cause.TheVariants.{Dark}
 use Rattle.disk.specs.declared.fault.Operation.TheVariants.{Flush}
 use Rattle.kind.specs.Meaning.{Numbering}
@@ -88,7 +89,7 @@ worked = third ∷ power_cut ∷ second ∷ first ∷ []
 
 -- the calls make it
 abbrev pub WorkedHistory : Type 0
-WorkedHistory = (state : State) × Reached one_by_one start worked state (latest start worked)
+WorkedHistory = (state : State) × Reached anything (λ m. m) one_by_one start worked state (latest start worked)
 
 -- the cut is inside the reservation: it leaves what a torn disk leaves at tear 20 that holds back the write of record 2, and the
 -- sector is blank

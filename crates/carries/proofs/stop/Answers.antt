@@ -9,6 +9,7 @@ returns-in_err-ring g c lawful = absurd (not_denied _ _ _ lawful c.cut.ensures.m
 
 pub returns : goal.returns
 returns g c lawful =
-    stopped _ _ _ lawful c.cut.ensures.meaning _ _ _ _ _ _ c.in_ok-ring.ensures.answer c.reserve-answer.ensures.reserves
-    c.cut-2.ensures.meaning c.recover-recovered.ensures.answer (CutBy g.D.Disk.meaning g.D.Disk.after_cut) c.args.tear
-    (c.args.disk.now, refl, c.cut.ensures.exact) (c.reserve-answer.new.disk, refl, c.cut-2.ensures.exact)
+    rw c.told-answer.ensures
+    (stopped _ _ _ lawful c.cut.ensures.meaning _ _ _ _ _ _ c.in_ok-ring.ensures.answer c.reserve.ensures.reserves
+    c.cut-2.ensures.meaning c.recover-recovered.ensures.answer (CutBy g.D.Disk.moves g.D.Disk.meaning) c.args.tear
+    (c.args.disk.now, c.cut.new.self, refl, refl, c.cut.ensures.moves) (c.reserve.new.disk, c.cut-2.new.self, refl, refl, c.cut-2.ensures.moves))

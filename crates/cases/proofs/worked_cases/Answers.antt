@@ -1,7 +1,6 @@
 -- The table is computed.
-use Rattle.cases.proofs.Allows.{runs_are_allowed}
 use Rattle.cases.proofs.Computed.{every_case_holds}
 use Rattle.cases.proofs.worked_cases.Goals as goal
 
 pub returns : goal.returns
-returns c = record { count = c.rows.ensures; hold = every_case_holds; allowed = runs_are_allowed }
+returns c = record { count = c.rows.ensures; hold = every_case_holds }

@@ -3,6 +3,6 @@ use Rattle.history.proofs.Serves.{cut_made}
 use Rattle.history.proofs.calls.make.Goals as goal
 
 pub returns-in-Cut-clause-extends : goal.returns-in-Cut-clause-extends
-returns-in-Cut-clause-extends g c start past reached =
-    cut_made g.D.Disk.meaning g.D.Disk.after_cut c.args.server.now.disk c.cut.new.self.disk _ start past _ _ reached _ _ _ _ c.in-Cut.is
-    c.cut.ensures.rules c.cut.ensures.exact
+returns-in-Cut-clause-extends g c first past reached =
+    cut_made g.D.Disk.moves g.D.Disk.meaning _ first past _ _ _ _ reached _ _ _ _ c.in-Cut.is
+    c.cut.ensures.rules c.cut.ensures.moves

@@ -2,9 +2,8 @@
 use Rattle.std.proofs.Common.{◌≡◌, ◌<◌, List, [], length, take, refl, ap, ◌∙◌, subst, None, Some, arith, get_or}
 use Rattle.std.proofs.lemmas.List.{take_all}
 use Rattle.history.specs.declared.calls.Call.TheVariants.{Give}
-use Rattle.history.specs.Made.{TakesAll}
 use Rattle.history.specs.declared.calls.Turn.{Turn}
-use Rattle.history.proofs.Serves.{Serving, serving_step, served, more_taken, rest_dropped, calls_kept, all_calls, taken_further}
+use Rattle.history.proofs.Serves.{Serving, serving_step, served, more_taken, rest_dropped, calls_kept, all_calls}
 use Rattle.history.proofs.calls.serve.Goals as goal
 
 abbrev no_turn : Turn
@@ -16,7 +15,7 @@ loop-turn-init g c =
       kind = refl;
       rest = refl;
       calls = refl;
-      serving = λ start past reached. record { events = []; answered = refl; goes = refl; reached = reached };
+      serving = λ first past reached. record { events = []; answered = refl; reached = reached };
     }
 
 pub loop-turn-preserved : goal.loop-turn-preserved
@@ -32,10 +31,9 @@ loop-turn-preserved g c =
       rest = rest_dropped items turns i no_turn turn taken before.rest refl;
       calls = calls_kept items turns i no_turn turn taken before.rest refl before.calls;
       serving =
-          λ start past reached.
+          λ first past reached.
           serving_step (ap g.K.Kind.numbering before.kind) (more_taken items turns i no_turn turn taken before.rest refl)
-          (taken_further g.D.Disk.meaning g.D.Disk.after_cut c.args.server.now.disk c.loop-turn.server.disk c.make.new.server.disk) c.make.ensures.extends
-          (before.serving start past reached);
+          c.make.ensures.extends (before.serving first past reached);
     }
 
 pub returns-clause-calls : goal.returns-clause-calls
@@ -43,12 +41,12 @@ returns-clause-calls g c =
     all_calls c.loop-turn.turn-items c.args.turns.now c.loop-turn.turn-index (omega arith) (omega arith) c.loop-turn.invariant.calls
 
 pub returns-clause-promise : goal.returns-clause-promise
-returns-clause-promise g c start past reached =
+returns-clause-promise g c first past reached =
     let items = c.loop-turn.turn-items in
     let i = c.loop-turn.turn-index in
     let all : take i items ≡ items = take_all i items (omega arith) in
     let before = c.loop-turn.invariant in
     served (g.met.K.Kind.lawful c.args.server.now.kind) (returns-clause-calls g c)
     (subst
-    (λ (xs : List Turn). Serving (g.K.Kind.numbering c.args.server.now.kind) start past xs (TakesAll g.D.Disk.meaning g.D.Disk.after_cut c.args.server.now.disk c.loop-turn.server.disk) c.loop-turn.server.state (g.D.Disk.meaning c.loop-turn.server.disk))
-    all (before.serving start past reached))
+    (λ (xs : List Turn). Serving g.D.Disk.moves g.D.Disk.meaning (g.K.Kind.numbering c.args.server.now.kind) first past xs c.loop-turn.server.state c.loop-turn.server.disk)
+    all (before.serving first past reached))

@@ -1,10 +1,11 @@
--- The current fails at the reservation's write.
+-- The current fails at the reservation's write, or its flush is left to be made.
 use Rattle.std.proofs.lemmas.Result.{err_from_is_err_and}
-use Rattle.ring.proofs.Reserves.{may_search, write_denied}
+use Rattle.ring.proofs.LastChains.{chain_denied, chain_written}
+use Rattle.ring.proofs.Reserves.{may_search, write_denied, work_and_fault}
 use Rattle.ring.proofs.ring.Ring.begin.Goals as goal
 
-pub returns-in_err-write_record : goal.returns-in_err-write_record
-returns-in_err-write_record g c may =
+pub returns-in_err-write_record-clause-begins : goal.returns-in_err-write_record-clause-begins
+returns-in_err-write_record-clause-begins g c may =
     let cleared = c.in_ok-gap.ensures.search (may_search _ _ _ _ may) in
     let p = err_from_is_err_and c.from_residual-in_err-write_record.result c.from_residual-in_err-write_record.ensures.1 in
     rw (p.1, p.2)
@@ -12,3 +13,22 @@ returns-in_err-write_record g c may =
     c.in_err-write_record.ensures.answer
     c.in_err-write_record.ensures.effect.0
     c.in_err-write_record.ensures.effect.1)
+
+pub returns-in_err-write_record-clause-moves : goal.returns-in_err-write_record-clause-moves
+returns-in_err-write_record-clause-moves g c may =
+    let search = may_search _ _ _ _ may in
+    let p = err_from_is_err_and c.from_residual-in_err-write_record.result c.from_residual-in_err-write_record.ensures.1 in
+    rw p.1
+    (chain_denied g.D.Disk.moves g.D.Disk.meaning _ _ c.args.claim.end c.args.disk.now _ _ (c.in_ok-gap.ensures.search search) may.numbers
+    (c.in_ok-gap.ensures.moves search) _
+    c.write_record.ensures.moves _
+    (work_and_fault _ _ _ c.in_err-write_record.ensures.answer).1)
+
+pub returns-clause-moves : goal.returns-clause-moves
+returns-clause-moves g c may after flushed =
+    let search = may_search _ _ _ _ may in
+    chain_written g.D.Disk.moves g.D.Disk.meaning _ _ c.args.claim.end c.args.disk.now _ _ (c.in_ok-gap.ensures.search search) may.numbers
+    (c.in_ok-gap.ensures.moves search) _
+    c.write_record.ensures.moves _
+    c.in_ok-write_record.ensures.effect after
+    (rw (c.new.ensures, c.in_ok-gap.ensures.gap) at flushed)

@@ -1,12 +1,17 @@
 -- Each turn is one of the search: it ends, goes on, or is stopped.
 use Rattle.std.proofs.Common.{sym, ap, arith}
 use Rattle.std.proofs.lemmas.Result.{err_from_is_err_and}
+use Rattle.ring.proofs.Chains.{chain_begins, chain_goes_on, chain_stops, chain_ends}
 use Rattle.ring.proofs.Searches.{search_begins}
 use Rattle.ring.proofs.Turns.{noted_since, carries_from, carries_less, turn_finds, turn_ends, turn_goes_on, turn_stops}
 use Rattle.ring.proofs.ring.Ring.clear_the_way.Goals as goal
 
 pub loop-content-init : goal.loop-content-init
-loop-content-init g c = (omega arith, λ may. search_begins _ _ _ may)
+loop-content-init g c = (
+  omega arith,
+  λ may. search_begins _ _ _ may,
+  λ may. chain_begins g.D.Disk.moves g.D.Disk.meaning c.args.self.now.format c.args.series c.args.disk.now,
+)
 
 pub loop-content-smaller : goal.loop-content-smaller
 loop-content-smaller g c =
@@ -34,6 +39,15 @@ loop-content-preserved g c = (
       _
       c.in_ok-carry-in-Some.ensures.effect.1
       c.in_ok-carry-in-Some.ensures.effect.2,
+  λ may.
+      let search = c.loop-content.invariant.1 may in
+      let finds = turn_finds _ _ _ _ _ search may.numbers _ _ _ (ap (λ k. k.top.0) may.agrees.knows) c.in_ok-content.ensures c.in-Some.ensures.value in
+      chain_goes_on g.D.Disk.moves g.D.Disk.meaning _ _ c.args.disk.now _ _ search may.numbers (c.loop-content.invariant.2 may)
+      c.in-Some.entry finds _
+      c.carry.ensures.moves
+      _ _
+      c.in_ok-carry-in-Some.ensures.effect.1
+      c.in_ok-carry-in-Some.ensures.effect.2,
 )
 
 pub returns-in_err-carry-in-Some : goal.returns-in_err-carry-in-Some
@@ -49,6 +63,15 @@ returns-in_err-carry-in-Some g c =
           c.in_err-carry-in-Some.field-0.0 _ _
           c.in_err-carry-in-Some.ensures.work
           c.in_err-carry-in-Some.ensures.effect);
+      moves = λ may.
+          let search = c.loop-content.invariant.1 may in
+          let finds = turn_finds _ _ _ _ _ search may.numbers _ _ _ (ap (λ k. k.top.0) may.agrees.knows) c.in_ok-content.ensures c.in-Some.ensures.value in
+          rw p.1
+          (chain_stops g.D.Disk.moves g.D.Disk.meaning _ _ c.args.disk.now _ _ search may.numbers (c.loop-content.invariant.2 may)
+          c.in-Some.entry finds _
+          c.carry.ensures.moves
+          _ c.in_err-carry-in-Some.field-0.0.fault
+          c.in_err-carry-in-Some.ensures.effect);
     }
 
 pub returns : goal.returns
@@ -59,4 +82,8 @@ returns g c =
           let search = c.loop-content.invariant.1 may in
           let finds = turn_finds _ _ _ _ _ search may.numbers _ _ _ (ap (λ k. k.top.0) may.agrees.knows) c.in_ok-content.ensures c.in-None.ensures.value in
           turn_ends _ _ _ _ _ search may.numbers finds;
+      moves = λ may.
+          let search = c.loop-content.invariant.1 may in
+          let finds = turn_finds _ _ _ _ _ search may.numbers _ _ _ (ap (λ k. k.top.0) may.agrees.knows) c.in_ok-content.ensures c.in-None.ensures.value in
+          chain_ends g.D.Disk.moves g.D.Disk.meaning _ _ c.args.disk.now _ _ search may.numbers (c.loop-content.invariant.2 may) finds;
     }

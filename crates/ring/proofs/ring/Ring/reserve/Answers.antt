@@ -8,7 +8,7 @@ pub returns-clause-reserves : goal.returns-clause-reserves
 returns-clause-reserves g c agrees none =
     let may = may_from _ _ c.args.series c.args.end agrees none in
     let asked = (is_admitted _ _ _ c.in_ok-claim.ensures).1 in
-    let begun = rw asked at c.in_ok-written.ensures in
+    let begun = rw asked at c.in_ok-written.ensures.begins in
     let was = passed_on _ _ _ c.in_ok-reserved.ensures.cases in
     confirm_done _ _ _ _ may _ _ _ (begun may) _ _ (sym was ∙ c.confirm.ensures.answer)
     (MatchResult-at_ok _ _ _ was c.confirm.ensures.effect)
@@ -17,7 +17,7 @@ pub returns-in_err-reserved-clause-reserves : goal.returns-in_err-reserved-claus
 returns-in_err-reserved-clause-reserves g c agrees none =
     let may = may_from _ _ c.args.series c.args.end agrees none in
     let asked = (is_admitted _ _ _ c.in_ok-claim.ensures).1 in
-    let begun = rw asked at c.in_ok-written.ensures in
+    let begun = rw asked at c.in_ok-written.ensures.begins in
     let was = made_of _ _ _ c.in_err-reserved.ensures.cases in
     let p = err_from_is_err_and c.from_residual-in_err-reserved.result c.from_residual-in_err-reserved.ensures.1 in
     rw (p.1, p.2)

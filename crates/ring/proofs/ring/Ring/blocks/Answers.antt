@@ -1,0 +1,14 @@
+-- Each block is empty at the end of the live record at its place.
+use Rattle.std.proofs.Common.{rules}
+use Rattle.std.proofs.lemmas.Bool.{lt-ltb}
+use Rattle.std.proofs.lemmas.List.FromFn.{fill_by_all}
+use Rattle.ring.specs.Ring.{none, known_end}
+use Rattle.ring.specs.Token.{empty_block}
+use Rattle.ring.proofs.ring.Ring.blocks.Goals as goal
+
+pub returns : goal.returns
+returns c =
+    fill_by_all (λ k. empty_block (known_end c.args.self.now.known k)) _ 8 (empty_block none.end) c.map.ensures.items.long
+    (λ k l.
+    let call = c.map.ensures.items.at k none (empty_block none.end) l in
+    rw (lt-ltb k 8 l) (search rules))
