@@ -3,7 +3,8 @@ use Rattle.std.proofs.Common.{◌≡◌, ℕ, zero, suc, ◌*◌, ◌<◌, ◌�
 use Rattle.std.proofs.lemmas.Bool.{cases_Bool, cases_lt, ltb-true}
 use Rattle.record.specs.declared.sector.Format.{Format}
 use Rattle.disk.specs.Meaning.{Meaning}
-use Rattle.ring.specs.Left.{Recovers, WithoutRecords, LawfulReservation}
+use Rattle.disk.specs.Blank.{WithoutRecords}
+use Rattle.ring.specs.Left.{Recovers, LawfulReservation}
 use Rattle.ring.specs.Operations.{outcome}
 use Rattle.ring.specs.Ring.{known, plan, recovered, top, Step}
 use Rattle.ring.specs.declared.fault.RingFault.{RingFault}

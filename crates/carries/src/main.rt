@@ -3,7 +3,8 @@
 #![tactic(auto)]
 
 ghost use Rattle.std.specs.Prelude.{◌≡◌, Some, IfOk, IsOkAnd, flat_map};
-ghost use Rattle.ring.specs.Left.{LawfulReservation, WithoutRecords};
+ghost use Rattle.disk.specs.Blank.{WithoutRecords};
+ghost use Rattle.ring.specs.Left.{LawfulReservation};
 ghost use Rattle.ring.specs.Ring.{Agrees};
 ghost use Rattle.carries.specs.Texts.{work_text, answer_text, end_text, recovered_text};
 ghost use Rattle.carries.specs.Stops.{format, series_told, Filled, CutBy, Stops, FilledAndStopped};

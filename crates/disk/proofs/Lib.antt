@@ -1,3 +1,4 @@
 pub mod Chunks
+pub mod Clears
 pub mod Meanings
 pub mod Zeros

@@ -1,3 +1,4 @@
+pub mod Blank
 pub mod Devices
 pub mod Holding
 pub mod Meaning

@@ -1,6 +1,7 @@
 // A disk of sectors whose power may fail, and two such disks over memory handed in.
 #![tactic(auto)]
 
+mod blank;
 mod disk;
 mod faithful;
 mod fault;
@@ -10,6 +11,7 @@ mod sectors;
 mod size;
 mod torn;
 
+pub use blank::blank_disk;
 pub use disk::Disk;
 pub use faithful::{FaithfulDisk, WriteThrough};
 pub use fault::{Cause, DiskFault, Operation};

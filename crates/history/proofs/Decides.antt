@@ -4,8 +4,8 @@ use Rattle.std.proofs.lemmas.Bool.{cond_both, leb-true, leb-false}
 use Rattle.record.specs.declared.numbers.Rank.{Rank}
 use Rattle.record.specs.declared.numbers.Reading.{Reading as ClockReading}
 use Rattle.kind.specs.Meaning.{Numbering, LawfulKind}
-use Rattle.server.specs.History.{floor_of, or_zero}
-use Rattle.server.specs.Promise.{FloorsZero}
+use Rattle.history.specs.History.{floor_of, or_zero}
+use Rattle.history.specs.Promise.{FloorsZero}
 use Rattle.server.specs.Rules.{Range, Wish, declines, draws, block_end, claim, by_rank, by_floor}
 use Rattle.server.specs.declared.fault.ServerFault.TheVariants.{Reading, AboveTop}
 use Rattle.history.proofs.Draws.{Claims}

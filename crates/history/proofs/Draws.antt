@@ -20,7 +20,7 @@ use Rattle.ring.specs.declared.token.Reserved.{Reserved}
 use Rattle.ring.proofs.Leaves.{operations_counted, cut_within, reserved_whole, seven_carries, tops_counted}
 use Rattle.ring.proofs.Starts.{agrees_recovers}
 use Rattle.server.proofs.Requests.{stopped_tells, outcome_is}
-use Rattle.server.specs.History.{of_eight, lost, Event, asks, told, after_of, latest, end_in, next, wish, steps_of, wanted_by, asked, succeeded, floor_by, floor_since, standing, top_record, numbers_suffice, loss, cuts_since, wanted, too_little, dark, writes, left_standing, reserved_by}
+use Rattle.history.specs.History.{of_eight, lost, Event, asks, told, after_of, latest, end_in, next, wish, steps_of, wanted_by, asked, succeeded, floor_by, floor_since, standing, top_record, numbers_suffice, loss, cuts_since, wanted, too_little, dark, writes, left_standing, reserved_by}
 use Rattle.server.specs.Rules.{format, Ask, Range, draws, decide, end_at, next_at, drawn, block_in, with_ring, stopped, Answered, Reserving, Wish}
 use Rattle.server.specs.declared.fault.ServerFault.{ServerFault}
 use Rattle.server.specs.declared.fault.ServerFault.TheVariants.{Ring as OfRing}

@@ -6,8 +6,8 @@ use Rattle.record.specs.declared.numbers.Identifier.{Identifier}
 use Rattle.record.specs.declared.numbers.Reading.{Reading}
 use Rattle.disk.specs.Meaning.{Meaning}
 use Rattle.kind.specs.Meaning.{Numbering, LawfulKind}
-use Rattle.server.specs.History.{Event, rank_of, after_last, labels, made_before}
-use Rattle.server.specs.Promise.{Rising}
+use Rattle.history.specs.History.{Event, rank_of, after_last, labels, made_before}
+use Rattle.history.specs.Promise.{Rising}
 use Rattle.server.specs.Rules.{Range}
 use Rattle.history.proofs.Series.{Series, Label, Counted, blocks}
 

@@ -4,7 +4,7 @@ use Rattle.disk.specs.Meaning.{Meaning, Cut}
 use Rattle.kind.specs.Meaning.{Numbering}
 use Rattle.ring.specs.Left.{Left}
 use Rattle.ring.specs.Ring.{top, Agrees}
-use Rattle.server.specs.History.{Event, latest, end_in, next, floor_since, after_last, cuts_since, lost, loss, dark, writes, standing, top_record}
+use Rattle.history.specs.History.{Event, latest, end_in, next, floor_since, after_last, cuts_since, lost, loss, dark, writes, standing, top_record}
 use Rattle.server.specs.Rules.{format, Range, end_at, next_at}
 use Rattle.server.specs.declared.state.State.{State}
 use Rattle.server.specs.declared.state.State.TheVariants.{Up as Awake, Down}

@@ -6,7 +6,7 @@ use Rattle.kind.specs.Meaning.{Numbering}
 use Rattle.ring.specs.Operations.{Op, Went, performed, writes_in}
 use Rattle.ring.specs.Ring.{Step}
 use Rattle.ring.specs.declared.token.Block.{Block}
-use Rattle.server.specs.History.{Event, asks, told, after_of, latest, end_in, next, wish, wanted, asked, succeeded, too_little, dark_by, dark, writes_by, writes, reserved_by, made, cut_from, standing}
+use Rattle.history.specs.History.{Event, asks, told, after_of, latest, end_in, next, wish, wanted, asked, succeeded, too_little, dark_by, dark, writes_by, writes, reserved_by, made, cut_from, standing}
 use Rattle.server.specs.Rules.{format, Ask, Range, Wish, draws, end_at, next_at}
 use Rattle.server.specs.declared.state.Up.{Up}
 use Rattle.history.proofs.Invariant.{IsUp}

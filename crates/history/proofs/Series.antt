@@ -10,8 +10,8 @@ use Rattle.record.specs.declared.numbers.Reading.{Reading}
 use Rattle.record.specs.declared.numbers.Sequence.{Sequence}
 use Rattle.disk.specs.Meaning.{Meaning}
 use Rattle.kind.specs.Meaning.{Numbering}
-use Rattle.server.specs.History.{Event, cut, Told, gave, refused, silent, woke, told, end_in, next, rank_of, floor_of, floor_since, next_by, after_by, floor_by, cuts_by, labels_by, after_last, cuts_since, lost, loss, pushed, labels, standing}
-use Rattle.server.specs.Promise.{FloorsZero}
+use Rattle.history.specs.History.{Event, cut, Told, gave, refused, silent, woke, told, end_in, next, rank_of, floor_of, floor_since, next_by, after_by, floor_by, cuts_by, labels_by, after_last, cuts_since, lost, loss, pushed, labels, standing}
+use Rattle.history.specs.Promise.{FloorsZero}
 use Rattle.server.specs.Rules.{Range}
 use Rattle.server.specs.declared.fault.ServerFault.{ServerFault}
 

@@ -9,8 +9,8 @@ use Rattle.disk.specs.Memory.{IsSize}
 use Rattle.disk.specs.Moves.{Moves}
 use Rattle.kind.specs.Meaning.{Numbering, LawfulKind}
 use Rattle.ring.specs.Operations.{Chain}
-use Rattle.server.specs.History.{Event, request, cut}
-use Rattle.server.specs.Promise.{Obeys, Reached, GoesOver, begun, gave, was_cut}
+use Rattle.history.specs.History.{Event, request, cut}
+use Rattle.history.specs.Promise.{Obeys, Reached, GoesOver, begun, gave, was_cut}
 use Rattle.server.specs.Rules.{one, Gave, WasCut, tries, woken}
 use Rattle.server.specs.declared.fault.ServerFault.{ServerFault}
 use Rattle.server.specs.declared.state.State.{State}

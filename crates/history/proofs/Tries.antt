@@ -8,7 +8,7 @@ use Rattle.kind.specs.Meaning.{Numbering, LawfulKind}
 use Rattle.ring.specs.Operations.{tried}
 use Rattle.ring.specs.Ring.{plan, Step}
 use Rattle.ring.specs.Search.{refusal}
-use Rattle.server.specs.History.{Event, latest, end_in, next, wish, steps_of, wanted_by, wanted, asked, dark, numbers_suffice}
+use Rattle.history.specs.History.{Event, latest, end_in, next, wish, steps_of, wanted_by, wanted, asked, dark, numbers_suffice}
 use Rattle.server.specs.Rules.{format, Ask, one, Range, Wish, declines, draws, by_floor, tries, tries_by, tries_for}
 use Rattle.server.specs.declared.fault.ServerFault.TheVariants.{Series}
 use Rattle.server.specs.declared.state.State.{State}

@@ -9,15 +9,16 @@ use Rattle.record.specs.declared.numbers.Sequence.{Sequence}
 use Rattle.record.specs.declared.sector.Format.{Format}
 use Rattle.disk.specs.Meaning.{Meaning}
 use Rattle.kind.specs.Meaning.{Numbering, LawfulKind}
-use Rattle.ring.specs.Left.{Recovers, WithoutRecords, end_of}
+use Rattle.disk.specs.Blank.{WithoutRecords}
+use Rattle.ring.specs.Left.{Recovers, end_of}
 use Rattle.ring.specs.Ring.{top, known, known_end, recovered, Step}
 use Rattle.ring.specs.declared.ring.Ring.{Ring}
 use Rattle.ring.proofs.Cuts.{cut_at_rest}
 use Rattle.ring.proofs.Starts.{blank_recovers, blank_top, blank_end, recovers_answer, recovers_agrees, agrees_recovers, known_end_is}
 use Rattle.ring.specs.Token.{empty_block}
 use Rattle.ring.specs.declared.token.Block.{Block}
-use Rattle.server.specs.History.{lost, Event, cut, after_of, asks, latest, end_in, wish, wanted, too_little, dark_by, dark, asked, writes, reserved_by, made, cut_from, standing}
-use Rattle.server.specs.Promise.{CutLaws}
+use Rattle.history.specs.History.{lost, Event, cut, after_of, asks, latest, end_in, wish, wanted, too_little, dark_by, dark, asked, writes, reserved_by, made, cut_from, standing}
+use Rattle.history.specs.Promise.{CutLaws}
 use Rattle.server.specs.Rules.{format, Ask, Range, Wish, draws, woken, awake, top_told, block_in, end_at, next_at, WasCut}
 use Rattle.server.specs.declared.fault.ServerFault.{ServerFault}
 use Rattle.server.specs.declared.state.State.{State}

@@ -3,10 +3,10 @@ use Rattle.std.specs.Prelude.{◌≡◌, List, [], ◌∷◌, ◌++◌, map, Som
 use Rattle.disk.specs.Meaning.{Meaning}
 use Rattle.disk.specs.Moves.{Moves}
 use Rattle.kind.specs.Meaning.{Numbering}
-use Rattle.ring.specs.Left.{Unwritten, WithoutRecords}
+use Rattle.disk.specs.Blank.{Unwritten, WithoutRecords}
 use Rattle.ring.specs.Operations.{Chain}
-use Rattle.server.specs.History.{Event, request, cut}
-use Rattle.server.specs.Promise.{Obeys, Reached, GoesOver}
+use Rattle.history.specs.History.{Event, request, cut}
+use Rattle.history.specs.Promise.{Obeys, Reached, GoesOver}
 use Rattle.server.specs.Rules.{one, tries}
 use Rattle.server.specs.declared.state.State.{State}
 use Rattle.history.specs.declared.calls.Answer.{Answer}

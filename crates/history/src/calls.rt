@@ -1,7 +1,7 @@
 // Calls on a server, one after the other, and what none of them can make false.
 ghost use Rattle.std.specs.Prelude.{◌≡◌, List, map};
-ghost use Rattle.server.specs.History.{Event};
-ghost use Rattle.server.specs.Promise.{Reached, EveryHistoryObeys};
+ghost use Rattle.history.specs.History.{Event};
+ghost use Rattle.history.specs.Promise.{Reached, EveryHistoryObeys};
 ghost use Rattle.history.specs.Made.{Takes, Made, Served, Ran};
 
 use disk::Disk;

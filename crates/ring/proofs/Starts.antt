@@ -5,7 +5,8 @@ use Rattle.record.specs.Sector.{content}
 use Rattle.record.specs.declared.sector.Format.{Format}
 use Rattle.record.specs.declared.sector.Record.{Record}
 use Rattle.disk.specs.Meaning.{Meaning, at}
-use Rattle.ring.specs.Left.{Recovers, WithoutRecords, end_of}
+use Rattle.disk.specs.Blank.{WithoutRecords}
+use Rattle.ring.specs.Left.{Recovers, end_of}
 use Rattle.ring.specs.Ring.{record_in, slot, top, none, gap, known, known_end, is_foreign, Sized, Agrees, foreign_below, holds_live, recovered}
 use Rattle.ring.specs.declared.known.Live.{Live}
 use Rattle.ring.specs.declared.ring.Ring.{Ring}

@@ -15,18 +15,6 @@ pub record Recovers (f : Format) (reading : List (List ℕ)) : Type 0 where
   pub free : Free f reading
   pub native : Native f reading
 
--- a disk without records keeps what it reads, and every sector is blank
-pub record Unwritten (m : Meaning) : Type 0 where
-  pub kept : m.kept ≡ m.reading
-  pub blank : (k : ℕ) → k < length m.reading → sound (at m.reading k) ≡ false
-
--- the same of a meaning that has not to be a disk's: it has 10 to 2,048 sectors
-pub record WithoutRecords (m : Meaning) : Type 0 where
-  pub least : 10 ≤ length m.reading
-  pub most : length m.reading ≤ 2048
-  pub kept : m.kept ≡ m.reading
-  pub blank : (k : ℕ) → k < length m.reading → sound (at m.reading k) ≡ false
-
 -- the end of a series, 0 without a record
 abbrev pub end_of : Format → List (List ℕ) → ℕ → ℕ
 end_of f reading s = (live f reading s).end.0

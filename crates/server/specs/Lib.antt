@@ -1,5 +1,3 @@
 pub mod Faults
-pub mod History
 pub mod Knows
-pub mod Promise
 pub mod Rules

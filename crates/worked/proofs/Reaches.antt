@@ -17,7 +17,7 @@ use Rattle.ring.specs.declared.fault.RingFault.{RingFault}
 use Rattle.ring.specs.declared.ring.Ring.{Ring}
 use Rattle.ring.specs.declared.token.Reserved.{Reserved}
 use Rattle.ring.proofs.Starts.{recovers_agrees}
-use Rattle.server.specs.Promise.{Reached, begun, gave, was_cut}
+use Rattle.history.specs.Promise.{Reached, begun, gave, was_cut}
 use Rattle.server.specs.Rules.{format, Range, Answered, Reserving}
 use Rattle.server.specs.declared.fault.ServerFault.{ServerFault}
 use Rattle.server.specs.declared.state.State.{State}

@@ -4,7 +4,7 @@ use Rattle.kind.specs.Serial.{serial_numbering}
 use Rattle.kind.specs.Time.{time_numbering}
 use Rattle.kind.specs.declared.serial.SerialKind.{SerialKind}
 use Rattle.kind.specs.declared.time.TimeKind.{TimeKind}
-use Rattle.server.specs.Promise.{FloorsZero}
+use Rattle.history.specs.Promise.{FloorsZero}
 
 -- every kind is lawful, and every reading has the floor 0 in a serial kind
 pub record KindsLawful : Type 0 where

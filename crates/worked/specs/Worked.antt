@@ -13,11 +13,11 @@ use Rattle.kind.specs.Serial.{serial_numbering}
 use Rattle.ring.specs.declared.fault.RingFault.{RingFault}
 use Rattle.ring.specs.declared.fault.RingFault.TheVariants.{Interrupted}
 use Rattle.ring.specs.declared.fault.Work.TheVariants.{Reservation}
-use Rattle.server.specs.History.{Event, request, cut, latest}
-use Rattle.server.specs.Promise.{Reached}
+use Rattle.history.specs.History.{Event, request, cut, latest}
+use Rattle.history.specs.Promise.{Reached}
 use Rattle.server.specs.declared.fault.ServerFault.TheVariants.{Ring}
 use Rattle.server.specs.declared.state.State.{State}
-use Rattle.worked.specs.Blank.{zeros, cleared}
+use Rattle.disk.specs.Blank.{zeros, cleared}
 
 -- the serial kind that reserves one rank at a time
 abbrev pub one_by_one : Numbering

@@ -1,8 +1,8 @@
 // A history that the promise speaks of, worked by hand.
 ghost use Rattle.std.specs.Prelude.{◌≡◌, [], ◌∷◌, map};
 ghost use Rattle.kind.specs.Meaning.{LawfulKind};
-ghost use Rattle.ring.specs.Left.{WithoutRecords};
-ghost use Rattle.server.specs.History.{labels};
+ghost use Rattle.disk.specs.Blank.{WithoutRecords};
+ghost use Rattle.history.specs.History.{labels};
 ghost use Rattle.worked.specs.Worked.{one_by_one, start, worked, WorkedHistory, TornInside};
 
 // The last identifier of the history; before it 1 was given, and nothing else.

@@ -1,7 +1,7 @@
 -- The calls so far are made, in their order, and the turns to come are as they were.
 use Rattle.std.proofs.Common.{◌≡◌, List, map, take, drop}
-use Rattle.server.specs.History.{Event}
-use Rattle.server.specs.Promise.{Reached}
+use Rattle.history.specs.History.{Event}
+use Rattle.history.specs.Promise.{Reached}
 use Rattle.history.proofs.Serves.{Serving}
 use Rattle.history.proofs.calls.serve.Given as goal
 

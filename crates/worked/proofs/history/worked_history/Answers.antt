@@ -1,6 +1,6 @@
 -- The promise's premises, each from its own lemma.
 use Rattle.std.proofs.Common.{lit≤}
-use Rattle.worked.proofs.Clears.{cleared_without}
+use Rattle.disk.proofs.Clears.{cleared_without}
 use Rattle.worked.proofs.Reaches.{lawful, torn_inside, reached}
 use Rattle.worked.proofs.history.worked_history.Goals as goal
 

@@ -2,8 +2,8 @@
 use Rattle.std.proofs.Common.{length, refl}
 use Rattle.disk.specs.Memory.{sectors}
 use Rattle.disk.proofs.Meanings.{all_kept}
-use Rattle.worked.proofs.Clears.{blank_disk, by_test}
-use Rattle.worked.proofs.blank.blank_disk.Goals as goal
+use Rattle.disk.proofs.Clears.{blank_disk, by_test}
+use Rattle.disk.proofs.blank.blank_disk.Goals as goal
 
 pub returns : goal.returns
 returns g c =

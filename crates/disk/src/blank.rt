@@ -2,9 +2,11 @@
 ghost use Rattle.std.specs.Prelude.{◌≡◌, length, replicate, is_ok, if◌then◌else◌, MatchResult};
 ghost use Rattle.disk.specs.Devices.{memory_disk};
 ghost use Rattle.disk.specs.Memory.{right_size};
-ghost use Rattle.worked.specs.Blank.{BlankDisk};
+ghost use Rattle.disk.specs.Blank.{BlankDisk};
 
-use disk::{BadSize, HoldBack, MemoryDisk, is_right_size};
+use crate::hold::HoldBack;
+use crate::memory::MemoryDisk;
+use crate::size::{BadSize, is_right_size};
 
 // Clears memory that is that of a disk of so many sectors, and leaves any other as it is.
 fn clear(memory: &mut [u8], sectors: usize)

@@ -8,8 +8,7 @@ use Rattle.disk.specs.Meaning.{Meaning}
 use Rattle.disk.specs.Memory.{right_size, sectors, spare}
 use Rattle.disk.proofs.Meanings.{same_parts}
 use Rattle.disk.proofs.Zeros.{bytes, sectors_zero, spare_zero}
-use Rattle.ring.specs.Left.{WithoutRecords}
-use Rattle.worked.specs.Blank.{zeros, cleared, BlankDisk}
+use Rattle.disk.specs.Blank.{WithoutRecords, zeros, cleared, BlankDisk}
 
 -- antt computes the checksum of 28 zero bytes
 zero_not_sound : sound (bytes 32) ≡ false

@@ -8,10 +8,10 @@ use Rattle.record.specs.declared.numbers.Sequence.{Sequence}
 use Rattle.disk.specs.Meaning.{Meaning, Cut}
 use Rattle.disk.specs.Moves.{Moves}
 use Rattle.kind.specs.Meaning.{Numbering, LawfulKind}
-use Rattle.ring.specs.Left.{WithoutRecords}
+use Rattle.disk.specs.Blank.{WithoutRecords}
 use Rattle.ring.specs.Operations.{Went, Chain}
 use Rattle.ring.specs.Ring.{top}
-use Rattle.server.specs.History.{Event, request, cut, asks, tried_by, latest, end_in, rank_of, floor_of, floor_since, after_last, cuts_since, loss, labels, top_record, dark, asked, succeeded, writes, standing, made_before}
+use Rattle.history.specs.History.{Event, request, cut, asks, tried_by, latest, end_in, rank_of, floor_of, floor_since, after_last, cuts_since, loss, labels, top_record, dark, asked, succeeded, writes, standing, made_before}
 use Rattle.server.specs.Rules.{format, one, tries, woken, Gave, WasCut}
 use Rattle.server.specs.declared.fault.ServerFault.{ServerFault}
 use Rattle.server.specs.declared.fault.ServerFault.TheVariants.{AboveTop}

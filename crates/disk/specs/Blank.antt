@@ -1,0 +1,30 @@
+-- Disks without records, and disks that are cleared.
+use Rattle.std.specs.Prelude.{◌≡◌, ℕ, ◌*◌, ◌<◌, ◌≤◌, false, List, [], length, replicate}
+use Rattle.record.specs.Sector.{sound}
+use Rattle.disk.specs.Meaning.{Meaning, at}
+
+-- a disk without records keeps what it reads, and every sector is blank
+pub record Unwritten (m : Meaning) : Type 0 where
+  pub kept : m.kept ≡ m.reading
+  pub blank : (k : ℕ) → k < length m.reading → sound (at m.reading k) ≡ false
+
+-- the same of a meaning that has not to be a disk's: it has 10 to 2,048 sectors
+pub record WithoutRecords (m : Meaning) : Type 0 where
+  pub least : 10 ≤ length m.reading
+  pub most : length m.reading ≤ 2048
+  pub kept : m.kept ≡ m.reading
+  pub blank : (k : ℕ) → k < length m.reading → sound (at m.reading k) ≡ false
+
+-- so many sectors of 32 zero bytes
+abbrev pub zeros : ℕ → List (List ℕ)
+zeros sectors = replicate sectors (replicate 32 0)
+
+-- a disk of them that keeps what it reads, with nothing past its last sector
+abbrev pub cleared : ℕ → ℕ → Meaning
+cleared sectors supply = record { reading = zeros sectors; kept = zeros sectors; supply = supply; beyond = [] }
+
+-- a disk that is made without records: its memory is all zero bytes, and it means cleared sectors with the supply given
+pub record BlankDisk (sectors supply : ℕ) (memory : List ℕ) (m : Meaning) : Type 0 where
+  pub memory_zero : memory ≡ replicate (32 * sectors) 0
+  pub means : m ≡ cleared sectors supply
+  pub without : WithoutRecords m
