@@ -17,7 +17,8 @@ use Rattle.ring.specs.declared.known.Known.{Known}
 use Rattle.ring.specs.declared.ring.Ring.{Ring}
 use Rattle.ring.specs.declared.token.Block.{Block}
 use Rattle.ring.specs.declared.token.Reserved.{Reserved}
-use Rattle.ring.proofs.Leaves.{operations_counted, cut_within, reserved_whole, seven_carries, tops_counted}
+use Rattle.ring.proofs.Leaves.{operations_counted, cut_within, reserved_whole, tops_counted}
+use Rattle.ring.proofs.Plans.{some_steps as plan_some}
 use Rattle.ring.proofs.Starts.{agrees_recovers}
 use Rattle.server.proofs.Requests.{stopped_tells, outcome_is}
 use Rattle.history.specs.History.{of_eight, lost, Event, asks, told, after_of, latest, end_in, next, wish, steps_of, wanted_by, asked, succeeded, floor_by, floor_since, standing, top_record, numbers_suffice, loss, cuts_since, wanted, too_little, dark, writes, left_standing, reserved_by}
@@ -29,14 +30,9 @@ use Rattle.server.specs.declared.state.Up.{Up}
 use Rattle.history.proofs.Invariant.{IsUp, Invariant, IsDown}
 use Rattle.history.proofs.Quiet.{Quiet, touches_none, standing_none, series_quiet, asked_lit, up_quiet, dark_is, writes_is, standing_is}
 use Rattle.history.proofs.Series.{InBlocks, in_blocks_before, Series, GivesNone, Counted, keeps, loss_more, series_kept}
-use Rattle.ring.specs.Left.{Recovers, LawfulReservation, Follows, stops, carries}
+use Rattle.ring.specs.Left.{Recovers, LawfulReservation}
 use Rattle.history.proofs.Given.{counted_more}
 use Rattle.history.proofs.Wakes.{standing_lit}
-
--- a plan has at least one write
-follows_some : (f : Format) (s end : ℕ) (reading : List (List ℕ)) (steps : List Step) → Follows f s end reading steps → 1 ≤ length steps
-follows_some f s end reading steps (stops e) = omega arith
-follows_some f s end reading steps (carries q e rest) = omega arith
 
 -- what is flushed stands; what is not stands as the next cut leaves it
 module _ (k : Numbering) (start : Meaning) (t supply : ℕ) (x : Option Meaning) (s first n : ℕ) (claimed : Range) where
@@ -227,7 +223,7 @@ module _ {A : Type 0} {k : Numbering} {start : Meaning} {past : List Event} {u :
             }
 
         some_steps : 1 ≤ length steps
-        some_steps = follows_some f s claimed.end m.reading steps (seven_carries f s claimed.end m may).0
+        some_steps = plan_some f 7 s claimed.end m.reading
 
         -- the disk goes by the plan
         module _ (m' : Meaning) (goes : Went m (performed f steps m.supply) m') where

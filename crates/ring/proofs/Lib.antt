@@ -5,6 +5,7 @@ pub mod Determined
 pub mod Knows
 pub mod LastChains
 pub mod Leaves
+pub mod Plans
 pub mod Recovers
 pub mod Reserves
 pub mod Scans
