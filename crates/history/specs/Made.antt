@@ -6,7 +6,7 @@ use Rattle.kind.specs.Meaning.{Numbering}
 use Rattle.disk.specs.Blank.{Unwritten, WithoutRecords}
 use Rattle.ring.specs.Operations.{Chain}
 use Rattle.history.specs.History.{Event, request, cut}
-use Rattle.history.specs.Promise.{Obeys, Reached, GoesOver}
+use Rattle.history.specs.Promise.{Obeys, HiLoThroughout, Reached, GoesOver}
 use Rattle.server.specs.Rules.{one, tries}
 use Rattle.server.specs.declared.state.State.{State}
 use Rattle.history.specs.declared.calls.Answer.{Answer}
@@ -65,3 +65,21 @@ module _ {D : Type 0} (moves : Moves D) (meaning : D → Meaning) (k : Numbering
     pub answered : after ≡ turns_of history
     pub reached : Reached moves meaning k first history state d
     pub obeys : Unwritten (meaning first) → Obeys k (meaning first) history × GoesOver moves meaning k first history d
+
+-- all calls since a server was put together on a disk that meant this at first: they obey the laws, and the disk went over by
+-- what they ask for
+module _ {D : Type 0} (moves : Moves D) (meaning : D → Meaning) (k : Numbering) (start : Meaning) where
+  pub record RanFrom (turns after : List Turn) (state : State) (d : D) : Type 0 where
+    pub first : D
+    pub began : meaning first ≡ start
+    pub history : List Event
+    pub asked : map (λ turn. turn.call) after ≡ map (λ turn. turn.call) turns
+    pub answered : after ≡ turns_of history
+    pub reached : Reached moves meaning k first history state d
+    pub obeys : Obeys k start history
+    pub goes : GoesOver moves meaning k first history d
+
+  -- and each identifier that they gave obeys hi/lo
+  pub record RanSerially (turns after : List Turn) (state : State) (d : D) : Type 0 where
+    pub ran : RanFrom turns after state d
+    pub hi_lo : HiLoThroughout k start ran.history

@@ -1,5 +1,5 @@
 -- What every history of a server obeys that began on a disk without records.
-use Rattle.std.specs.Prelude.{◌≡◌, ℕ, ◌+◌, ◌-◌, ◌*◌, ◌^◌, ◌<◌, ◌≤◌, max, true, List, [], ◌∷◌, length, Some, None, Ok, Err, Result}
+use Rattle.std.specs.Prelude.{◌≡◌, ℕ, ◌+◌, ◌-◌, ◌*◌, ◌^◌, ◌<◌, ◌≤◌, min, max, true, false, List, [], ◌∷◌, length, Some, None, Ok, Err, Result}
 use Rattle.std.specs.List.{AllByRecursion}
 use Rattle.record.specs.declared.numbers.Identifier.{Identifier}
 use Rattle.record.specs.declared.numbers.Rank.{Rank}
@@ -9,8 +9,9 @@ use Rattle.disk.specs.Meaning.{Meaning, Cut}
 use Rattle.disk.specs.Moves.{Moves}
 use Rattle.kind.specs.Meaning.{Numbering, LawfulKind}
 use Rattle.disk.specs.Blank.{WithoutRecords}
+use Rattle.ring.specs.Left.{Follows}
 use Rattle.ring.specs.Operations.{Went, Chain}
-use Rattle.ring.specs.Ring.{top}
+use Rattle.ring.specs.Ring.{Step, top}
 use Rattle.history.specs.History.{Event, request, cut, asks, tried_by, latest, end_in, rank_of, floor_of, floor_since, after_last, cuts_since, loss, labels, top_record, dark, asked, succeeded, writes, standing, made_before}
 use Rattle.server.specs.Rules.{format, one, tries, woken, Gave, WasCut}
 use Rattle.server.specs.declared.fault.ServerFault.{ServerFault}
@@ -21,6 +22,10 @@ use Rattle.server.specs.declared.state.State.{State}
 abbrev pub FloorsZero : Numbering → Type 0
 FloorsZero k = (reading : Reading) → k.floor reading ≡ Some (record { 0 = 0 })
 
+-- a reading that is lawful: it has a floor
+abbrev pub HasFloor : Numbering → Reading → Type 0
+HasFloor k reading = (floor : Rank) × (k.floor reading ≡ Some floor)
+
 -- an answer that is a denial
 abbrev pub IsDenied : Result Identifier ServerFault → Type 0
 IsDenied answer = (fault : ServerFault) × (answer ≡ Err fault)
@@ -30,9 +35,11 @@ module _ (k : Numbering) (start : Meaning) (s : ℕ) (reading : Reading) (past :
   abbrev rank : ℕ
   rank = rank_of k start s reading past
 
-  -- rising: an identifier that is given is the kind's for the request's rank, and for no other rank up to the top; it is
-  -- greater than every one given in the series before
+  -- rising: an identifier is given to a series of 0 to 7 at a reading that has a floor; it is the kind's for the request's
+  -- rank, and for no other rank up to the top; it is greater than every one given in the series before
   pub record Rising (identifier : Identifier) : Type 0 where
+    pub series : s < 8
+    pub floor : HasFloor k reading
     pub lawful : rank ≤ k.top.0
     pub told : identifier ≡ k.identifier s (record { 0 = rank })
     pub only : (r : Rank) → r.0 ≤ k.top.0 → identifier ≡ k.identifier s r → r.0 ≡ rank
@@ -52,6 +59,27 @@ module _ (k : Numbering) (start : Meaning) (s : ℕ) (reading : Reading) (past :
     above_top : k.top.0 < rank → Ground
     run_short : end_in k start (latest start past) s ≤ rank → 2 ^ 62 - 1 < top_record k start past + 8 → Ground
 
+  -- a request must reserve: its series is one of eight, its reading has a floor, its rank is not above the top and not below the
+  -- series' end as the disk reads, the disk did not go dark since the latest cut, and sequence numbers suffice
+  pub record MustReserve : Type 0 where
+    pub series : s < 8
+    pub floor : HasFloor k reading
+    pub lawful : rank ≤ k.top.0
+    pub outside : end_in k start (latest start past) s ≤ rank
+    pub lit : dark k start past ≡ false
+    pub numbers : top_record k start past + 8 ≤ 2 ^ 62 - 1
+
+  -- the end that it reserves up to: the smaller of rank + block size and top + 1
+  abbrev pub new_end : ℕ
+  new_end = min (rank + k.block) (k.top.0 + 1)
+
+  -- what a request asks of the disk: by the ring's rule the carries and then the reservation, seven carries at most, where it
+  -- must reserve; nothing where it need not
+  pub record AsksByRule (steps : List Step) : Type 0 where
+    pub follows : MustReserve → Follows (format k start) s new_end (latest start past).reading steps
+    pub carries : length steps ≤ 8
+    pub nothing : (MustReserve → ⊥) → steps ≡ []
+
   -- hi/lo: the rank is hi × block size + lo, where hi reservations were made before the one that covers it, its own among them
   pub record HiLo (answer : Result Identifier ServerFault) (after : Meaning) : Type 0 where
     pub lo : ℕ
@@ -63,11 +91,12 @@ module _ (k : Numbering) (start : Meaning) (s : ℕ) (reading : Reading) (past :
 -- the laws of a request
 pub record RequestLaws (k : Numbering) (start : Meaning) (s : ℕ) (reading : Reading) (answer : Result Identifier ServerFault) (after : Meaning) (past : List Event) : Type 0 where
   -- nothing but the writes and flushes that are asked for reaches the disk, as far as the supply goes
-  pub touches :
-      Went (latest start past) (succeeded k start (one s reading) past) after
+  pub touches : Went (latest start past) (succeeded k start (one s reading) past) after
+  pub by_rule : AsksByRule k start s reading past (asked k start (one s reading) past)
   pub rising : (identifier : Identifier) → answer ≡ Ok identifier → Rising k start s reading past identifier
   pub loses : (identifier : Identifier) → answer ≡ Ok identifier → WithinLoss k start s reading past
-  pub loses_above : answer ≡ Err AboveTop → WithinLoss k start s reading past
+  pub loses_above :
+      answer ≡ Err AboveTop → (s < 8) × HasFloor k reading × WithinLoss k start s reading past
   -- denied exactly when
   pub denied :
       s < 8 → (floor : Rank) → k.floor reading ≡ Some floor → IsDenied answer → Ground k start s reading past
@@ -88,6 +117,13 @@ Obeys k start [] = Unit {0}
 Obeys k start (request s reading answer after ∷ past) =
     RequestLaws k start s reading answer after past × Obeys k start past
 Obeys k start (cut tear supply answer after ∷ past) = CutLaws k start supply answer after past × Obeys k start past
+
+-- hi/lo of every identifier that a history gives
+abbrev pub HiLoThroughout : Numbering → Meaning → List Event → Type 0
+HiLoThroughout k start [] = Unit {0}
+HiLoThroughout k start (request s reading (Ok identifier) after ∷ past) =
+    HiLo k start s reading past (Ok identifier) after × HiLoThroughout k start past
+HiLoThroughout k start (event ∷ past) = HiLoThroughout k start past
 
 -- the histories that the three calls make: put together on a disk, and then requests and cuts; each takes the disk over to
 -- another, by the operations that it tries or as a cut

@@ -106,9 +106,13 @@ length_by f (suc n) s end reading (Some q) e =
     let rest = length_by f n s end after (carried f after s) refl in
     omega arith
 
+-- the reservation and seven carries at most
+pub most_steps : (f : Format) (s end : ℕ) (reading : List (List ℕ)) → length (plan f 7 s end reading) ≤ 8
+most_steps f s end reading = length_by f 7 s end reading (carried f reading s) refl
+
 pub seven_carries : SevenCarries
 seven_carries f s end reading room = (
   follows_by f s (top f reading) room.numbers end 7 reading (carried f reading s) refl
       (path_begins f s reading room.recovers room.series),
-  length_by f 7 s end reading (carried f reading s) refl,
+  most_steps f s end reading,
 )
