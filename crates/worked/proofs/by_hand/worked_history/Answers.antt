@@ -2,7 +2,7 @@
 use Rattle.std.proofs.Common.{lit≤}
 use Rattle.disk.proofs.Clears.{cleared_without}
 use Rattle.worked.proofs.Reaches.{lawful, torn_inside, reached}
-use Rattle.worked.proofs.history.worked_history.Goals as goal
+use Rattle.worked.proofs.by_hand.worked_history.Goals as goal
 
 pub returns : goal.returns
 returns c =
