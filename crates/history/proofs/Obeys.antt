@@ -231,8 +231,8 @@ request_more k lawful start past (Down fault) inv s reading answer after m did =
     rw (did.0, did.1, did.2) (
       still_down inv q (λ t. tt),
       laws_denied k start past s reading m (touches_none q) inv.read_tops
-      (asks_by_rule k start past s reading (λ lit. absurd (let z : ◌≡◌ {A = Bool} true false = sym inv.unlit ∙ lit in cc)))
-      (WasDown fault) (λ e. absurd cc) (λ l floor e. went_dark inv.unlit),
+          (asks_by_rule k start past s reading (λ lit. absurd (let z : ◌≡◌ {A = Bool} true false = sym inv.unlit ∙ lit in cc)))
+          (WasDown fault) (λ e. absurd cc) (λ l floor e. went_dark inv.unlit),
     )
 
 -- one cut more

@@ -1,11 +1,14 @@
 -- The calls and answers of a history, and what making a list of calls promises.
-use Rattle.std.specs.Prelude.{◌≡◌, List, [], ◌∷◌, ◌++◌, map, Some}
+use Rattle.std.specs.Prelude.{◌≡◌, ℕ, List, [], ◌∷◌, ◌++◌, map, Some}
 use Rattle.disk.specs.Meaning.{Meaning}
 use Rattle.disk.specs.Moves.{Moves}
 use Rattle.kind.specs.Meaning.{Numbering}
-use Rattle.disk.specs.Blank.{Unwritten, WithoutRecords}
-use Rattle.ring.specs.Operations.{Chain}
-use Rattle.history.specs.History.{Event, request, cut}
+use Rattle.disk.specs.Blank.{Unwritten, WithoutRecords, zeros, cleared}
+use Rattle.disk.specs.Devices.{Stands, stands, after_cut, memory_disk, memory_moves}
+use Rattle.disk.specs.Holding.{Holding}
+use Rattle.disk.specs.declared.memory.MemoryDisk.{MemoryDisk}
+use Rattle.ring.specs.Operations.{Chain, after_tries}
+use Rattle.history.specs.History.{Event, request, cut, asks, tried_by}
 use Rattle.history.specs.Promise.{Obeys, HiLoThroughout, Reached, GoesOver}
 use Rattle.server.specs.Rules.{one, tries}
 use Rattle.server.specs.declared.state.State.{State}
@@ -79,7 +82,26 @@ module _ {D : Type 0} (moves : Moves D) (meaning : D → Meaning) (k : Numbering
     pub obeys : Obeys k start history
     pub goes : GoesOver moves meaning k first history d
 
+-- how a disk over memory stands after a history, by how it stood at first: the operations of each call tried, and the cuts
+abbrev pub stood_after : {H : Type 0} → Holding H → Numbering → Meaning → Stands H → List Event → Stands H
+stood_after w k start x [] = x
+stood_after w k start x (cut tear supply answer after ∷ past) =
+    after_cut w (stood_after w k start x past) tear supply
+stood_after w k start x (event ∷ past) =
+    after_tries w (stood_after w k start x past)
+    (tried_by k start past (stood_after w k start x past).supply (asks event))
+
+-- the same on a disk over memory that was cleared: there the calls leave nothing open
+module _ {H : Type 0} (w : Holding H) (k : Numbering) (sectors supply : ℕ) where
+  -- how the disk stands at first
+  abbrev pub blank_stand : Stands H
+  blank_stand = record { reading = zeros sectors; beyond = []; held = w.nothing; supply = supply }
+
+  pub record RanBlank (turns after : List Turn) (state : State) (d : MemoryDisk H) : Type 0 where
+    pub ran : RanFrom (memory_moves w) (memory_disk w.before) k (cleared sectors supply) turns after state d
+    pub exact : stands d ≡ stood_after w k (cleared sectors supply) blank_stand ran.history
+
   -- and each identifier that they gave obeys hi/lo
-  pub record RanSerially (turns after : List Turn) (state : State) (d : D) : Type 0 where
-    pub ran : RanFrom turns after state d
-    pub hi_lo : HiLoThroughout k start ran.history
+  pub record RanSerially (turns after : List Turn) (state : State) (d : MemoryDisk H) : Type 0 where
+    pub blank : RanBlank turns after state d
+    pub hi_lo : HiLoThroughout k (cleared sectors supply) blank.ran.history

@@ -1,10 +1,8 @@
 // Calls on a server over memory that was cleared, and what none of them can make false, whatever was in the memory before.
 ghost use Rattle.std.specs.Prelude.{◌≡◌, length, is_ok, IfOk, IfErr};
-ghost use Rattle.disk.specs.Blank.{cleared};
-ghost use Rattle.disk.specs.Devices.{memory_disk, memory_moves};
 ghost use Rattle.disk.specs.Memory.{right_size};
 ghost use Rattle.kind.specs.Serial.{serial_numbering};
-ghost use Rattle.history.specs.Made.{RanFrom, RanSerially};
+ghost use Rattle.history.specs.Made.{RanBlank, RanSerially};
 
 use crate::calls::{Turn, run};
 use disk::{BadSize, HoldBack, MemoryDisk, blank_disk};
@@ -24,7 +22,7 @@ pub fn run_blank<'a, H: HoldBack, K: Kind + Drop>(
     ensures test { is_ok result ≡ right_size (length memory.old) sectors }
     ensures denied { IfErr result (λ bad. (bad.memory.now ≡ memory.old) × (turns.new ≡ turns.old)) }
     ensures kind { IfOk result (λ server. server.kind ≡ kind) }
-    ensures promise { IfOk result (λ server. RanFrom (memory_moves H.holding) (memory_disk H.holding.before) (K.numbering kind) (cleared sectors supply) turns.old turns.new server.state server.disk) }
+    ensures promise { IfOk result (λ server. RanBlank H.holding (K.numbering kind) sectors supply turns.old turns.new server.state server.disk) }
 {
     match blank_disk(memory, sectors, supply) {
         Ok(disk) => Ok(run(disk, kind, turns)),
@@ -43,7 +41,7 @@ pub fn run_serial<'a, H: HoldBack>(
     ensures test { is_ok result ≡ right_size (length memory.old) sectors }
     ensures denied { IfErr result (λ bad. (bad.memory.now ≡ memory.old) × (turns.new ≡ turns.old)) }
     ensures kind { IfOk result (λ server. server.kind ≡ kind) }
-    ensures promise { IfOk result (λ server. RanSerially (memory_moves H.holding) (memory_disk H.holding.before) (serial_numbering kind) (cleared sectors supply) turns.old turns.new server.state server.disk) }
+    ensures promise { IfOk result (λ server. RanSerially H.holding (serial_numbering kind) sectors supply turns.old turns.new server.state server.disk) }
 {
     run_blank(memory, sectors, supply, kind, turns)
 }
