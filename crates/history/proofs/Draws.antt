@@ -57,7 +57,7 @@ pub record Claims (k : Numbering) (Even : Type 0) (lost end next floor first n :
 -- what a reservation is refused for, where series and end are lawful
 refusal_is : (f : Format) (t s : ℕ) (end : Rank) (b : Bool) → s < 8 → 0 < end.0 → end.0 ≤ f.top.0 + 1 → leb (t + 8) (2 ^ 62 - 1) ≡ b → refusal f t s end ≡ cond b None (Some Exhausted)
 refusal_is f t s end b below some upper e =
-    rw (lt-ltb s 8 below, lt-ltb 0 end.0 some, le-leb end.0 (f.top.0 + 1) upper, e) refl
+    rw (lt-ltb 0 end.0 some, le-leb end.0 (f.top.0 + 1) upper, lt-ltb s 8 below, e) refl
 
 -- no block
 abbrev no_block : Block

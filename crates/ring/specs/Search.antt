@@ -70,14 +70,14 @@ pub record Begun (f : Format) (s : ℕ) (end : Rank) (whole : Meaning) (w : Writ
   pub writes : Writes ring meaning s end r m
   pub token : w ≡ record { claim = record { series = s; end = end }; sector = known_gap ring }
 
--- what a reservation is refused for before anything is touched: the series, the end, or that sequence numbers run short
+-- what a reservation is refused for before anything is touched: the end, the series, or that sequence numbers run short
 abbrev pub refusal : Format → ℕ → ℕ → Rank → Option RingFault
 refusal f top s end =
-    cond (nat_lt s 8)
-    (cond (nat_lt 0 end.0 && nat_le end.0 (f.top.0 + 1))
+    cond (nat_lt 0 end.0 && nat_le end.0 (f.top.0 + 1))
+    (cond (nat_lt s 8)
     (cond (nat_le (top + 8) (2 ^ 62 - 1)) None (Some Exhausted))
-    (Some (End end)))
-    (Some (Series s))
+    (Some (Series s)))
+    (Some (End end))
 
 -- what is asked for, unless it is refused
 abbrev pub admitted : {A : Type 0} → A → Option RingFault → Result A RingFault

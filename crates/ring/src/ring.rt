@@ -190,11 +190,11 @@ impl Ring {
     fn admit(&self, series: u8, end: Rank) -> Result<Claim, RingFault>
         ensures { result ≡ admitted (record { series = series; end = end }) (refusal self.now.format self.now.known.top.0 series end) }
     {
-        if series >= 8 {
-            return Err(RingFault::Series(series));
-        }
         if end.0 == 0 || end.0 - 1 > self.format.top.0 {
             return Err(RingFault::End(end));
+        }
+        if series >= 8 {
+            return Err(RingFault::Series(series));
         }
         if self.known.top.0 > LAST_SEQUENCE - 8 {
             return Err(RingFault::Exhausted);
