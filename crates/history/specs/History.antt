@@ -59,8 +59,8 @@ floor_of k reading = or_zero (k.floor reading)
 abbrev pub end_in : Numbering → Meaning → Meaning → ℕ → ℕ
 end_in k start m s = end_of (format k start) m.reading s
 
--- next: one above the last rank given in the series since the latest cut or the start, or else the series' end as the disk
--- read right after that cut or start
+-- next, which starts anew at each cut: the successor of the newest rank that the series has given since, and while it has given
+-- none, its end on the disk that the cut left (before any cut, on the first disk)
 abbrev pub next_by : Numbering → Meaning → ℕ → Told → ℕ → ℕ
 next_by k start s (gave t reading n xs) was = cond (t == s) (max was (floor_of k reading) + n) was
 next_by k start s (woke m) was = end_in k start m s
@@ -70,11 +70,11 @@ abbrev pub next : Numbering → Meaning → ℕ → List Event → ℕ
 next k start s [] = end_in k start start s
 next k start s (event ∷ past) = next_by k start s (told event) (next k start s past)
 
--- the rank of a request: the larger of next and the reading's floor
+-- the rank of a request: next, or the reading's floor where that is higher
 abbrev pub rank_of : Numbering → Meaning → ℕ → Reading → List Event → ℕ
 rank_of k start s reading past = max (next k start s past) (floor_of k reading)
 
--- one above the last rank given in the series, 0 where none was
+-- the successor of the newest rank that the series has given, cuts or not; 0 before the first
 abbrev pub after_by : Numbering → ℕ → Told → ℕ → ℕ → ℕ
 after_by k s (gave t reading n xs) next was = cond (t == s) (max next (floor_of k reading) + n) was
 after_by k s tells next was = was
@@ -84,7 +84,7 @@ after_last k start s [] = 0
 after_last k start s (event ∷ past) =
     after_by k s (told event) (next k start s past) (after_last k start s past)
 
--- the highest floor of the series' requests since a rank was last given in it, 0 without one
+-- of the requests that the series has denied since it last gave a rank, the highest floor; 0 without one
 abbrev pub floor_by : Numbering → ℕ → Told → ℕ → ℕ
 floor_by k s (gave t reading n xs) was = cond (t == s) 0 was
 floor_by k s (refused t reading) was = cond (t == s) (max was (floor_of k reading)) was

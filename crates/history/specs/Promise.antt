@@ -51,8 +51,8 @@ module _ (k : Numbering) (start : Meaning) (s : ℕ) (reading : Reading) (past :
   WithinLoss =
       rank ≤ max (after_last k start s past) (max (floor_since k s past) (floor_of k reading)) + loss k past (cuts_since s past)
 
-  -- why a request is denied: the disk goes dark in it, or went dark before with no cut since; or its rank is above the top; or
-  -- it needs a reservation and sequence numbers run short
+  -- why a request is denied: current fails it, in one of its own operations or in an earlier call that no cut has followed yet;
+  -- or its rank lies above the top; or there are too few sequence numbers for the reservation that it needs
   pub data Ground : Type 0 where
     goes_dark : (latest start past).supply < 2 * length (asked k start (one s reading) past) → Ground
     went_dark : dark k start past ≡ true → Ground
