@@ -22,7 +22,8 @@ pub fn run_blank<'a, H: HoldBack, K: Kind + Drop>(
     ensures test { is_ok result ≡ right_size (length memory.old) sectors }
     ensures denied { IfErr result (λ bad. (bad.memory.now ≡ memory.old) × (turns.new ≡ turns.old)) }
     ensures kind { IfOk result (λ server. server.kind ≡ kind) }
-    ensures promise { IfOk result (λ server. RanBlank H.holding (K.numbering kind) sectors supply turns.old turns.new server.state server.disk) }
+    ensures promise { let k = K.numbering kind in
+        IfOk result (λ made. RanBlank H.holding k sectors supply turns.old turns.new made.state made.disk) }
 {
     match blank_disk(memory, sectors, supply) {
         Ok(disk) => Ok(run(disk, kind, turns)),
@@ -41,7 +42,8 @@ pub fn run_serial<'a, H: HoldBack>(
     ensures test { is_ok result ≡ right_size (length memory.old) sectors }
     ensures denied { IfErr result (λ bad. (bad.memory.now ≡ memory.old) × (turns.new ≡ turns.old)) }
     ensures kind { IfOk result (λ server. server.kind ≡ kind) }
-    ensures promise { IfOk result (λ server. RanSerially H.holding (serial_numbering kind) sectors supply turns.old turns.new server.state server.disk) }
+    ensures promise { let k = serial_numbering kind in
+        IfOk result (λ made. RanSerially H.holding k sectors supply turns.old turns.new made.state made.disk) }
 {
     run_blank(memory, sectors, supply, kind, turns)
 }
