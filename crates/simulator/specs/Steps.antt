@@ -1,5 +1,6 @@
 -- What a request line does: what it is answered, and the stage after it.
 use Rattle.std.specs.Prelude.{ℕ, ◌*◌, min, cond, List, length, drop, Some, None, Ok, Err, Option, Result}
+use Rattle.disk.specs.Blank.{cleared}
 use Rattle.disk.specs.Meaning.{Meaning}
 use Rattle.kind.specs.Serial.{serial_kind_of}
 use Rattle.kind.specs.Time.{lease_of, correction_of, time_kind_of}
@@ -14,7 +15,7 @@ use Rattle.ring.specs.Ring.{recovered}
 use Rattle.server.specs.Rules.{format, woken, top_told}
 use Rattle.server.specs.declared.fault.ServerFault.{ServerFault}
 use Rattle.server.specs.declared.state.State.{State}
-use Rattle.simulator.specs.Devices.{cleared, make_for, room, cut_by}
+use Rattle.simulator.specs.Devices.{make_for, room, cut_by}
 use Rattle.simulator.specs.Kinds.{numbering_of}
 use Rattle.simulator.specs.Request.{command_in, fields_in}
 use Rattle.simulator.specs.Requests.{LeftBy, given_by}
@@ -45,10 +46,10 @@ denied denial v = record { answer = Err denial; after = v }
 abbrev pub set_up : View → Done
 set_up v = record { answer = Ok Set; after = v }
 
--- the device: the first 32 bytes for each sector are cleared, and the rest of the memory is spare
+-- the device: the first 32 bytes for each sector are cleared, the rest of the memory is spare, and the supply is 1,000,000
 abbrev pub with_make : List ℕ → ℕ → Option Make → Done
 with_make memory n None = denied NoDevice (awaits_disk memory)
-with_make memory n (Some make) = set_up (awaits_kind make (cleared n) (drop (32 * n) memory))
+with_make memory n (Some make) = set_up (awaits_kind make (cleared n 1000000) (drop (32 * n) memory))
 
 -- a sector count that is out of range, or a memory that is too short, is told ahead of a device that is not there
 abbrev pub opened : List ℕ → Fields → Done

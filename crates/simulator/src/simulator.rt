@@ -1,10 +1,13 @@
 // The simulator: one call, a request line in and a print line out.
-ghost use Rattle.std.specs.Prelude.{◌≡◌, ℕ, min, List};
+ghost use Rattle.std.specs.Prelude.{◌≡◌, ℕ, min, List, []};
 ghost use Rattle.simulator.specs.Columns.{NumbersInColumns};
+ghost use Rattle.simulator.specs.Calls.{turn_of, turn_for, Extends};
 ghost use Rattle.simulator.specs.Devices.{meaning_of, make_of};
+ghost use Rattle.simulator.specs.Histories.{HasServed, RunServed};
 ghost use Rattle.simulator.specs.Stages.{view, awaits_disk, memory_of, runs};
-ghost use Rattle.simulator.specs.Steps.{step_of, requested};
+ghost use Rattle.simulator.specs.Steps.{step_of, requested, cut_off};
 ghost use Rattle.simulator.specs.Takes.{run_of, taken_by, numbered, ended_by, stage_bytes};
+ghost use Rattle.simulator.specs.declared.request.Command.TheVariants.{Give, Cut};
 
 use crate::answer::{Answer, Denial, columns_of};
 use crate::any_kind::AnyKind;
@@ -38,7 +41,8 @@ fn asked_series(series: u64) -> u8
 // A request of a series at a reading.
 #[tactic(auto, using(crate::proofs::Tears::keeps_make))]
 fn ask(server: &mut Server<Device<'_>, AnyKind>, fields: Fields) -> Result<Answer, Denial>
-    ensures { (spare : List ℕ) → record { answer = result; after = runs (make_of server.new.disk) server.new.kind server.new.state (meaning_of server.new.disk) spare } ≡ requested (make_of server.old.disk) server.old.kind server.old.state (meaning_of server.old.disk) spare fields }
+    ensures serves { Extends (HasServed server.old.kind server.old.state server.old.disk) (turn_for Give fields result) (HasServed server.new.kind server.new.state server.new.disk) }
+    ensures asks { (spare : List ℕ) → record { answer = result; after = runs (make_of server.new.disk) server.new.kind server.new.state (meaning_of server.new.disk) spare } ≡ requested (make_of server.old.disk) server.old.kind server.old.state (meaning_of server.old.disk) spare fields }
 {
     let series = fields.a;
     server
@@ -47,11 +51,23 @@ fn ask(server: &mut Server<Device<'_>, AnyKind>, fields: Fields) -> Result<Answe
         .map_err(|fault| Denial::NotGiven { series, fault })
 }
 
+// A power cut with a tear and a new supply, and the fresh start after it.
+fn cut(server: &mut Server<Device<'_>, AnyKind>, fields: Fields) -> Result<Answer, Denial>
+    ensures serves { Extends (HasServed server.old.kind server.old.state server.old.disk) (turn_for Cut fields result) (HasServed server.new.kind server.new.state server.new.disk) }
+    ensures cuts { (spare : List ℕ) → record { answer = result; after = runs (make_of server.new.disk) server.new.kind server.new.state (meaning_of server.new.disk) spare } ≡ cut_off (make_of server.old.disk) server.old.kind (meaning_of server.old.disk) spare fields }
+{
+    server
+        .cut(fields.a, fields.b)
+        .map(Answer::Woken)
+        .map_err(Denial::NotWoken)
+}
+
 impl<'a> Simulator<'a> {
     // A run that has taken no line, over memory for a disk.
     pub fn new(memory: &'a mut [u8]) -> Simulator<'a>
         ensures count { result.taken ≡ 0 }
         ensures stage { view result.stage ≡ awaits_disk memory.old }
+        ensures serves { RunServed result.stage [] }
     {
         Simulator {
             stage: Stage::Device(memory),
@@ -63,6 +79,7 @@ impl<'a> Simulator<'a> {
     // line of fewer bytes it is denied, and nothing changes.
     pub fn take(&mut self, line: &[u8], print: &mut [u8]) -> Result<Answer, Denial>
         ensures takes { record { answer = result; run = run_of self.new; print = print.new } ≡ taken_by (run_of self.old) line.now print.old }
+        ensures serves { Extends (RunServed self.old.stage) (turn_of line.now result) (RunServed self.new.stage) }
         ensures memory { stage_bytes self.new.stage ≡ memory_of (view self.new.stage) }
         ensures numbers { NumbersInColumns }
     {
@@ -78,6 +95,7 @@ impl<'a> Simulator<'a> {
     // What a line that is counted does, and the end of the run where it brings that.
     fn answer(&mut self, line: &[u8]) -> Result<Answer, Denial>
         ensures count { self.new.taken ≡ self.old.taken }
+        ensures serves { Extends (RunServed self.old.stage) (turn_of line.now result) (RunServed self.new.stage) }
         ensures answers { record { answer = result; after = view self.new.stage } ≡ ended_by (numbered self.old.taken (view self.old.stage) line.now) }
     {
         let answer = if self.taken > LAST_LINE {
@@ -94,6 +112,7 @@ impl<'a> Simulator<'a> {
     #[tactic(auto, using(crate::proofs::Tears::cut_is, crate::proofs::Tears::cut_keeps_make))]
     fn step(&mut self, line: &[u8]) -> Result<Answer, Denial>
         ensures count { self.new.taken ≡ self.old.taken }
+        ensures serves { Extends (RunServed self.old.stage) (turn_of line.now result) (RunServed self.new.stage) }
         ensures steps { record { answer = result; after = view self.new.stage } ≡ step_of (view self.old.stage) line.now }
     {
         match (&mut self.stage, command_in(line)) {
@@ -134,10 +153,7 @@ impl<'a> Simulator<'a> {
             }
             (Stage::Running { server, .. }, Ok(command @ Command::Cut)) => {
                 let fields = fields_in(line, command)?;
-                server
-                    .cut(fields.a, fields.b)
-                    .map(Answer::Woken)
-                    .map_err(Denial::NotWoken)
+                cut(server, fields)
             }
             _ => Err(Denial::Malformed(Item::Letter)),
         }
