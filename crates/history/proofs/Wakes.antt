@@ -137,7 +137,7 @@ module _ (k : Numbering) (start : Meaning) (past : List Event) (tear supply : �
   woken_again :
       Recovers (format k start) m.reading → ((s : ℕ) → s < 8 → Series k start (cut tear supply answer m ∷ past) s (end_in k start m s)) →
       top (format k start) m.reading ≤ writes k start past →
-      Invariant k start (cut tear supply answer m ∷ past) after × CutLaws k start supply answer m past
+      Invariant k start (cut tear supply answer m ∷ past) after × CutLaws k start supply past answer m
   woken_again recovers series tops = (
     subst (Invariant k start (cut tear supply answer m ∷ past)) (sym (was.state ∙ wakes k start m recovers))
         (record {
@@ -154,7 +154,7 @@ module _ (k : Numbering) (start : Meaning) (past : List Event) (tear supply : �
     record { leaves = was.left; tells = was.told ∙ tells k start m recovers },
   )
 
-  pub cut_while_up : (u : Up) → IsUp k start past u → Invariant k start (cut tear supply answer m ∷ past) after × CutLaws k start supply answer m past
+  pub cut_while_up : (u : Up) → IsUp k start past u → Invariant k start (cut tear supply answer m ∷ past) after × CutLaws k start supply past answer m
   cut_while_up u inv =
       let f = format k start in
       let same : m.reading ≡ (latest start past).reading = cut_at_rest (latest start past) m supply inv.kept was.left in
@@ -200,7 +200,7 @@ module _ (k : Numbering) (start : Meaning) (past : List Event) (tear supply : �
       (omega (arith, inv.most))
       (λ zeros. rw (e, st) (inv.counted zeros))
 
-  pub cut_while_down : IsDown k start past → Invariant k start (cut tear supply answer m ∷ past) after × CutLaws k start supply answer m past
+  pub cut_while_down : IsDown k start past → Invariant k start (cut tear supply answer m ∷ past) after × CutLaws k start supply past answer m
   cut_while_down inv =
       let l = inv.leaves m supply was.left in
       woken_again l.recovers
