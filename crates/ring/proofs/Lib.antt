@@ -2,6 +2,7 @@ pub mod Carries
 pub mod Chains
 pub mod Cuts
 pub mod Determined
+pub mod Ends
 pub mod Knows
 pub mod LastChains
 pub mod Leaves

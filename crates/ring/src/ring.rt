@@ -1,6 +1,6 @@
 // The ring over any disk.
-ghost use Rattle.std.specs.Prelude.{◌≡◌, ℕ, [], ◌∷◌, ◌+◌, ◌^◌, ◌<◌, IfOk, IfErr, Some, None, Ok, Err, MatchResult, map};
-ghost use Rattle.ring.specs.Token.{empty_block};
+ghost use Rattle.std.specs.Prelude.{◌≡◌, ℕ, [], ◌∷◌, ◌+◌, ◌^◌, ◌<◌, IfOk, IfErr, Some, None, Ok, Err, MatchResult, slice_set};
+ghost use Rattle.ring.specs.Token.{empty_blocks};
 ghost use Rattle.ring.specs.Left.{end_of, ReservationLaws, TopsCounted};
 ghost use Rattle.ring.specs.Faults.{with_work};
 ghost use Rattle.disk.specs.Meaning.{Meaning, at, count, answer_of, Flushed};
@@ -13,7 +13,7 @@ ghost use Rattle.ring.specs.Ring.{named, known_gap, next_of, reserving, beyond, 
 
 use crate::fault::{Interrupted, RingFault, Work, during};
 use crate::known::{Claim, Known};
-use crate::token::{Block, Reserved, Unconfirmed, Written};
+use crate::token::{Blocks, Reserved, Unconfirmed, Written};
 use disk::{Disk, DiskFault, LEAST_SECTORS, MOST_SECTORS};
 use record::{Content, Format, LAST_SEQUENCE, Rank, Record, Sequence, classify, encode};
 
@@ -103,10 +103,10 @@ impl Ring {
     }
 
     // The blocks of all eight series as a server wakes with them: they are empty.
-    pub fn blocks(&self) -> [Block; 8]
-        ensures { result ≡ map empty_block (known_ends self.now.known) }
+    pub fn blocks(&self) -> Blocks
+        ensures { result ≡ empty_blocks (known_ends self.now.known) }
     {
-        self.known.lives.map(|live| Block::empty(live.end))
+        Blocks::empty(self.known)
     }
 
     // What the sector after the gap holds.
@@ -181,9 +181,10 @@ impl Ring {
         ensures begins { MayReserve self.old (D.meaning disk.old) claim.series claim.end → MatchResult result (λ written. Begun self.old.format claim.series claim.end (D.meaning disk.old) written self.new (D.meaning disk.new)) (λ fault. Ended self.old.format claim.series claim.end (D.meaning disk.old) (Err fault) self.new (D.meaning disk.new)) }
         ensures moves { MayReserve self.old (D.meaning disk.old) claim.series claim.end → MatchResult result (λ written. (after : D) → D.moves.flushes disk.new written.sector after → Tried D.moves D.meaning self.old.format claim.series disk.old claim.end.0 after) (λ _. Tried D.moves D.meaning self.old.format claim.series disk.old claim.end.0 disk.new) }
     {
+        let start = self.known.end(claim.series);
         let gap = self.clear_the_way(disk, claim.series)?;
         self.write_record(disk, gap, Work::Reservation(claim.series), claim)?;
-        Ok(Written::new(claim, gap))
+        Ok(Written::new(claim, start, gap))
     }
 
     // What a reservation claims, if it may be made at all.
@@ -213,6 +214,8 @@ impl Ring {
         ensures reserves { Agrees self.old (D.meaning disk.old) → refusal self.old.format self.old.known.top.0 series end ≡ None → Ended self.old.format series end (D.meaning disk.old) result self.new (D.meaning disk.new) }
         ensures untouched { (fault : RingFault) → refusal self.old.format self.old.known.top.0 series end ≡ Some fault → disk.new ≡ disk.old }
         ensures moves { Agrees self.old (D.meaning disk.old) → refusal self.old.format self.old.known.top.0 series end ≡ None → Tried D.moves D.meaning self.old.format series disk.old end.0 disk.new }
+        ensures ends { Agrees self.old (D.meaning disk.old) →
+            IfOk result (λ _. known_ends self.new.known ≡ slice_set (known_ends self.old.known) series end) }
     {
         let claim = self.admit(series, end)?;
         let written = self.begin(disk, claim)?;

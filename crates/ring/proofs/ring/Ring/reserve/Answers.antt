@@ -1,6 +1,7 @@
 -- The reservation is confirmed by its flush, or given up.
 use Rattle.std.proofs.Common.{sym, ◌∙◌, rules}
 use Rattle.std.proofs.lemmas.Result.{MatchResult-at_ok, MatchResult-at_err, err_from_is_err_and}
+use Rattle.ring.proofs.Ends.{own_end_alone}
 use Rattle.ring.proofs.Reserves.{may_from, is_admitted, passed_on, made_of, confirm_done, confirm_denied}
 use Rattle.ring.proofs.ring.Ring.reserve.Goals as goal
 
@@ -12,6 +13,16 @@ returns-clause-reserves g c agrees none =
     let was = passed_on _ _ _ c.in_ok-reserved.ensures.cases in
     confirm_done _ _ _ _ may _ _ _ (begun may) _ _ (sym was ∙ c.confirm.ensures.answer)
     (MatchResult-at_ok _ _ _ was c.confirm.ensures.effect)
+
+pub returns-clause-ends : goal.returns-clause-ends
+returns-clause-ends g c agrees =
+    let admitted = is_admitted _ _ _ c.in_ok-claim.ensures in
+    let may = may_from _ _ c.args.series c.args.end agrees admitted.0 in
+    let begun = rw admitted.1 at c.in_ok-written.ensures.begins in
+    let was = passed_on _ _ _ c.in_ok-reserved.ensures.cases in
+    own_end_alone _ _ _ _ may _ _ _
+    (confirm_done _ _ _ _ may _ _ _ (begun may) _ _ (sym was ∙ c.confirm.ensures.answer)
+    (MatchResult-at_ok _ _ _ was c.confirm.ensures.effect))
 
 pub returns-in_err-reserved-clause-reserves : goal.returns-in_err-reserved-clause-reserves
 returns-in_err-reserved-clause-reserves g c agrees none =
