@@ -108,7 +108,8 @@ module _ (k : Numbering) (start : Meaning) (s : ℕ) (reading : Reading) (past :
     pub denies : s < 8 → HasFloor k reading → Ground → IsDenied answer
     -- numbers run short only after that many writes
     pub lasts : 2 ^ 62 - 1 < top_record k start past + 8 → 2 ^ 62 - 8 ≤ writes k start past
-    pub hi_lo : FloorsZero k → (identifier : Identifier) → answer ≡ Ok identifier → HiLo answer after
+    pub hi_lo :
+        FloorsZero k → (identifier : Identifier) → answer ≡ Ok identifier → HiLo answer after
 
 module _ (k : Numbering) (start : Meaning) (supply : ℕ) (past : List Event) where
   -- the laws of a cut: it leaves what a disk's cut may leave, and answers the top record as the disk then reads
@@ -131,26 +132,26 @@ HiLoThroughout k start (request s reading (Ok identifier) after ∷ past) =
     HiLo k start s reading past (Ok identifier) after × HiLoThroughout k start past
 HiLoThroughout k start (event ∷ past) = HiLoThroughout k start past
 
--- the histories that the three calls make: put together on a disk, and then requests and cuts; each takes the disk over to
--- another, by the operations that it tries or as a cut
-pub data Reached {D : Type 0} (moves : Moves D) (meaning : D → Meaning) (k : Numbering) (first : D) : List Event → State → D → Type 0 where
-  begun : Reached moves meaning k first [] (woken k (meaning first)) first
-  gave :
-      {past : List Event} {state after : State} {d d' : D}
-      {s : ℕ} {reading : Reading} {answer : Result Identifier ServerFault} →
-      Reached moves meaning k first past state d →
-      Gave k state (meaning d) s reading answer after (meaning d') →
-      Chain moves d (tries k state (meaning d) (one s reading)) d' →
-      Reached moves meaning k first (request s reading answer (meaning d') ∷ past) after d'
-  was_cut :
-      {past : List Event} {state after : State} {d d' : D}
-      {tear supply : ℕ} {answer : Result Sequence ServerFault} →
-      Reached moves meaning k first past state d →
-      WasCut k (meaning d) supply answer after (meaning d') →
-      moves.cuts d tear supply d' →
-      Reached moves meaning k first (cut tear supply answer (meaning d') ∷ past) after d'
-
 module _ {D : Type 0} (moves : Moves D) (meaning : D → Meaning) where
+  -- the histories that the three calls make: put together on a disk, and then requests and cuts; each takes the disk over to
+  -- another, by the operations that it tries or as a cut
+  pub data Reached (k : Numbering) (first : D) : List Event → State → D → Type 0 where
+    begun : Reached k first [] (woken k (meaning first)) first
+    gave :
+        {past : List Event} {state after : State} {d d' : D}
+        {s : ℕ} {reading : Reading} {answer : Result Identifier ServerFault} →
+        Reached k first past state d →
+        Gave k state (meaning d) s reading answer after (meaning d') →
+        Chain moves d (tries k state (meaning d) (one s reading)) d' →
+        Reached k first (request s reading answer (meaning d') ∷ past) after d'
+    was_cut :
+        {past : List Event} {state after : State} {d d' : D}
+        {tear supply : ℕ} {answer : Result Sequence ServerFault} →
+        Reached k first past state d →
+        WasCut k (meaning d) supply answer after (meaning d') →
+        moves.cuts d tear supply d' →
+        Reached k first (cut tear supply answer (meaning d') ∷ past) after d'
+
   -- a history took a disk over to another by exactly the operations that its calls ask for, up to and with the one that is
   -- denied, and by its cuts; between two calls the disk stays
   abbrev pub GoesOver : Numbering → D → List Event → D → Type 0
@@ -167,5 +168,5 @@ module _ {D : Type 0} (moves : Moves D) (meaning : D → Meaning) where
   EveryHistoryObeys =
       (k : Numbering) (first : D) (history : List Event) (state : State) (d : D) →
       LawfulKind k → WithoutRecords (meaning first) →
-      Reached moves meaning k first history state d →
+      Reached k first history state d →
       Obeys k (meaning first) history × GoesOver k first history d
