@@ -13,6 +13,7 @@ use Rattle.disk.specs.Moves.{anything}
 use Rattle.ring.specs.Operations.{tried, performed, outcome}
 use Rattle.ring.specs.Ring.{slot, top, top_below, live, live_below, known, is_foreign, foreign_below, plan, Sized}
 use Rattle.ring.specs.Search.{Ended, refusal}
+use Rattle.ring.specs.Token.{empty_block, empty_blocks, with_block}
 use Rattle.ring.specs.declared.fault.RingFault.{RingFault}
 use Rattle.ring.specs.declared.ring.Ring.{Ring}
 use Rattle.ring.specs.declared.token.Reserved.{Reserved}
@@ -73,7 +74,11 @@ ring_of reading = record { format = f; known = known f reading }
 
 abbrev up_at : List (List ℕ) → ℕ → Up
 up_at reading n =
-    record { ring = ring_of reading; blocks = set (replicate 8 (record { next = record { 0 = 0 }; end = record { 0 = 0 } })) 2 (record { next = record { 0 = n }; end = record { 0 = n } }) }
+    record { ring = ring_of reading; blocks = with_block (empty_blocks (replicate 8 (record { 0 = 0 }))) 2 (empty_block (record { 0 = n })) }
+
+-- a reservation of series 2
+abbrev reserved : ℕ → ℕ → Reserved
+reserved from to = record { series = 2; start = record { 0 = from }; end = record { 0 = to } }
 
 sized : (reading : List (List ℕ)) → length reading ≡ 10 → Sized f reading
 sized reading e =
@@ -109,7 +114,7 @@ settles :
 settles m p e = record { reads = refl; keeps = refl; spends = e; leaves = refl }
 
 -- record 1 is written and flushed
-ended_first : Ended f 2 (record { 0 = 1 }) start (Ok (record { series = 2; end = record { 0 = 1 } })) (ring_of with_one) after_first
+ended_first : Ended f 2 (record { 0 = 1 }) start (Ok (reserved 0 1)) (ring_of with_one) after_first
 unfolding plan performed outcome live live_below top top_below foreign_below slot content sound little crc register feed shifts shift encoded body bytes_of parts all_zero
 ended_first =
     record {
@@ -123,7 +128,7 @@ reached_first : Reached anything (λ m. m) one_by_one start (first ∷ []) (Awak
 unfolding plan tried live live_below top top_below foreign_below slot content sound little crc register feed shifts shift encoded body bytes_of parts all_zero
 reached_first =
     gave {d' = after_first} {s = 2} {reading = record { 0 = 0 }} begun
-    (reserving_by (ring_of with_one) (Ok (record { series = 2; end = record { 0 = 1 } })) refl ended_first (refl, refl))
+    (reserving_by (ring_of with_one) (Ok (reserved 0 1)) refl ended_first (refl, refl))
     (after_first, tt, (after_first, tt, refl))
 
 -- record 2 is written, and its flush goes dark
@@ -163,7 +168,7 @@ unfolding plan tried live live_below top top_below foreign_below slot content so
 reached_cut = was_cut reached_second (record { left = cut_left; state = refl; told = refl }) tt
 
 -- record 2 is written and flushed
-ended_third : Ended f 2 (record { 0 = 2 }) after_cut (Ok (record { series = 2; end = record { 0 = 2 } })) (ring_of with_two) after_third
+ended_third : Ended f 2 (record { 0 = 2 }) after_cut (Ok (reserved 1 2)) (ring_of with_two) after_third
 unfolding plan performed outcome live live_below top top_below foreign_below slot content sound little crc register feed shifts shift encoded body bytes_of parts all_zero
 ended_third =
     record {
@@ -178,6 +183,6 @@ unfolding plan tried live live_below top top_below foreign_below slot content so
 reached = (
   Awake (up_at with_two 2),
   gave {d' = after_third} {s = 2} {reading = record { 0 = 0 }} reached_cut
-      (reserving_by (ring_of with_two) (Ok (record { series = 2; end = record { 0 = 2 } })) refl ended_third (refl, refl))
+      (reserving_by (ring_of with_two) (Ok (reserved 1 2)) refl ended_third (refl, refl))
       (after_third, tt, (after_third, tt, refl)),
 )
