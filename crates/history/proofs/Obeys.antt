@@ -14,7 +14,8 @@ use Rattle.ring.specs.Ring.{known}
 use Rattle.ring.specs.declared.fault.RingFault.TheVariants.{Exhausted}
 use Rattle.history.specs.History.{lost, loss, cuts_since, Event, request, cut, told, latest, end_in, next, rank_of, floor_of, wish, steps_of, wanted_by, wanted, asked, succeeded, too_little, dark, writes, standing, top_record, numbers_suffice}
 use Rattle.history.specs.Promise.{FloorsZero, HasFloor, AsksByRule, Rising, WithinLoss, Ground, goes_dark, went_dark, above_top, run_short, RequestLaws, CutLaws, Obeys, Reached, begun, gave, was_cut, GoesOver, EveryHistoryObeys}
-use Rattle.server.specs.Rules.{format, Ask, one, tries, Range, Wish, declines, draws, by_floor, block_in, drawn, identified, Reserving, Does, Gave, WasCut}
+use Rattle.ring.specs.Token.{block_in}
+use Rattle.server.specs.Rules.{format, Ask, one, tries, Range, Wish, declines, draws, by_floor, drawn, identified, Reserving, Does, Gave, WasCut}
 use Rattle.server.specs.declared.fault.ServerFault.{ServerFault}
 use Rattle.server.specs.declared.fault.ServerFault.TheVariants.{Down as WasDown, Series as NoSeries, Reading, AboveTop, Ring as OfRing}
 use Rattle.server.specs.declared.state.State.{State}

@@ -15,11 +15,11 @@ use Rattle.ring.specs.Ring.{top, known, known_end, recovered, Step}
 use Rattle.ring.specs.declared.ring.Ring.{Ring}
 use Rattle.ring.proofs.Cuts.{cut_at_rest}
 use Rattle.ring.proofs.Starts.{blank_recovers, blank_top, blank_end, recovers_answer, recovers_agrees, agrees_recovers, known_end_is}
-use Rattle.ring.specs.Token.{empty_block}
+use Rattle.ring.specs.Token.{empty_block, empty_blocks, block_in}
 use Rattle.ring.specs.declared.token.Block.{Block}
 use Rattle.history.specs.History.{lost, Event, cut, after_of, asks, latest, end_in, wish, wanted, too_little, dark_by, dark, asked, writes, reserved_by, made, cut_from, standing}
 use Rattle.history.specs.Promise.{CutLaws}
-use Rattle.server.specs.Rules.{format, Ask, Range, Wish, draws, woken, awake, top_told, block_in, end_at, next_at, WasCut}
+use Rattle.server.specs.Rules.{format, Ask, Range, Wish, draws, woken, awake, top_told, end_at, next_at, WasCut}
 use Rattle.server.specs.declared.fault.ServerFault.{ServerFault}
 use Rattle.server.specs.declared.state.State.{State}
 use Rattle.server.specs.declared.state.State.TheVariants.{Up as Awake}
@@ -33,7 +33,7 @@ ring_of k start m = record { format = format k start; known = known (format k st
 
 abbrev pub up_of : Numbering → Meaning → Meaning → Up
 up_of k start m =
-    record { ring = ring_of k start m; blocks = map empty_block (map (known_end (known (format k start) m.reading)) (range_with_len 0 8)) }
+    record { ring = ring_of k start m; blocks = empty_blocks (map (known_end (known (format k start) m.reading)) (range_with_len 0 8)) }
 
 module _ (k : Numbering) (start : Meaning) (m : Meaning) (recovers : Recovers (format k start) m.reading) where
   same_format : format k m ≡ format k start
