@@ -14,7 +14,8 @@ use Rattle.ring.specs.Ring.{known}
 use Rattle.ring.specs.declared.fault.RingFault.TheVariants.{Exhausted}
 use Rattle.history.specs.History.{lost, loss, cuts_since, Event, request, cut, told, latest, end_in, next, rank_of, floor_of, wish, steps_of, wanted_by, wanted, asked, succeeded, too_little, dark, writes, standing, top_record, numbers_suffice}
 use Rattle.history.specs.Promise.{FloorsZero, HasFloor, AsksByRule, Rising, WithinLoss, Ground, goes_dark, went_dark, above_top, run_short, RequestLaws, CutLaws, Obeys, Reached, begun, gave, was_cut, GoesOver, EveryHistoryObeys}
-use Rattle.server.specs.Rules.{format, Ask, one, tries, Range, Wish, declines, draws, by_floor, block_in, drawn, identified, Reserving, Does, Gave, WasCut}
+use Rattle.ring.specs.Token.{block_in}
+use Rattle.server.specs.Rules.{format, Ask, one, tries, Range, Wish, declines, draws, by_floor, drawn, identified, Reserving, Does, Gave, WasCut}
 use Rattle.server.specs.declared.fault.ServerFault.{ServerFault}
 use Rattle.server.specs.declared.fault.ServerFault.TheVariants.{Down as WasDown, Series as NoSeries, Reading, AboveTop, Ring as OfRing}
 use Rattle.server.specs.declared.state.State.{State}
@@ -59,7 +60,7 @@ module _ {k : Numbering} {start : Meaning} {past : List Event} {event : Event} {
 module _ (k : Numbering) (start : Meaning) (past : List Event) (s : ℕ) (reading : ClockReading) (after : Meaning) (touch : Went (latest start past) (succeeded k start (one s reading) past) after) (tops : top_record k start past ≤ writes k start past) (rule : AsksByRule k start s reading past (asked k start (one s reading) past)) where
   laws_denied :
       (fault : ServerFault) → (fault ≡ AboveTop → (s < 8) × HasFloor k reading × WithinLoss k start s reading past) →
-      (s < 8 → (floor : Rank) → k.floor reading ≡ Some floor → Ground k start s reading past) → RequestLaws k start s reading (Err fault) after past
+      (s < 8 → HasFloor k reading → Ground k start s reading past) → RequestLaws k start s reading past (Err fault) after
   laws_denied fault within ground =
       record {
         touches = touch;
@@ -67,8 +68,8 @@ module _ (k : Numbering) (start : Meaning) (past : List Event) (s : ℕ) (readin
         rising = λ x e. absurd (err_not_ok x e);
         loses = λ x e. absurd (err_not_ok x e);
         loses_above = λ e. within (let same : fault ≡ AboveTop = cc in same);
-        denied = λ l floor e _. ground l floor e;
-        denies = λ l floor e _. (fault, refl);
+        denied = λ l has _. ground l has;
+        denies = λ l has _. (fault, refl);
         lasts = numbers_last (top_record k start past) (writes k start past) tops;
         hi_lo = λ zeros x e. absurd (err_not_ok x e);
       }
@@ -79,7 +80,7 @@ module _ (k : Numbering) (start : Meaning) (past : List Event) (s : ℕ) (readin
   laws_given :
       (identifier : Identifier) → Rising k start s reading past identifier → WithinLoss k start s reading past → (Ground k start s reading past → ⊥) →
       (FloorsZero k → Covered k.block (rank_of k start s reading past) (standing k start s None (request s reading (Ok identifier) after ∷ past))) →
-      RequestLaws k start s reading (Ok identifier) after past
+      RequestLaws k start s reading past (Ok identifier) after
   laws_given identifier rising within no_ground covers =
       record {
         touches = touch;
@@ -87,8 +88,8 @@ module _ (k : Numbering) (start : Meaning) (past : List Event) (s : ℕ) (readin
         rising = λ x e. let same : identifier ≡ x = cc in subst (Rising k start s reading past) same rising;
         loses = λ x e. within;
         loses_above = λ e. absurd cc;
-        denied = λ l floor e d. absurd (let z : Ok identifier ≡ Err d.0 = d.1 in cc);
-        denies = λ l floor e g. absurd (no_ground g);
+        denied = λ l has d. absurd (let z : Ok identifier ≡ Err d.0 = d.1 in cc);
+        denies = λ l has g. absurd (no_ground g);
         lasts = numbers_last (top_record k start past) (writes k start past) tops;
         hi_lo = λ zeros x e. let c = covers zeros in record { lo = c.lo; below = c.below; sum = c.sum };
       }
@@ -100,7 +101,7 @@ within_loss k start past s end reading inv = omega (arith, inv.bound)
 -- what one call more leaves and obeys
 abbrev AfterRequest : Numbering → Meaning → List Event → ℕ → ClockReading → Result Identifier ServerFault → State → Meaning → Type 0
 AfterRequest k start past s reading answer after m =
-    Invariant k start (request s reading answer m ∷ past) after × RequestLaws k start s reading answer m past
+    Invariant k start (request s reading answer m ∷ past) after × RequestLaws k start s reading past answer m
 
 -- a request to a server that is up
 module _ (k : Numbering) (lawful : LawfulKind k) (start : Meaning) (past : List Event) (u : Up) (inv : IsUp k start past u) (s : ℕ) (reading : ClockReading) (answer : Result Identifier ServerFault) (after : State) (m' : Meaning) where
@@ -127,12 +128,12 @@ module _ (k : Numbering) (lawful : LawfulKind k) (start : Meaning) (past : List 
 
   -- what else holds of it, by its answer
   abbrev Also : Result Identifier ServerFault → Meaning → Type 0
-  Also r left = RequestLaws k start s reading r left past
+  Also r left = RequestLaws k start s reading past r left
 
   -- declined, and nothing touched
   quiet :
       (fault : ServerFault) → wish k start ask past ≡ declines fault → (fault ≡ AboveTop → (s < 8) × HasFloor k reading) →
-      (s < 8 → (floor : Rank) → k.floor reading ≡ Some floor → Ground k start s reading past) →
+      (s < 8 → HasFloor k reading → Ground k start s reading past) →
       (answer ≡ Err fault) × (after ≡ Awake u) × (m' ≡ m) → AfterRequest k start past s reading answer after m'
   quiet fault wants known ground did =
       let q : Quiet k start past (event (Err fault) m) ask = record { is = refl; here = refl; nothing = asked_lit inv ask ∙ ap (wanted_by k start past) wants } in
@@ -193,8 +194,8 @@ module _ (k : Numbering) (lawful : LawfulKind k) (start : Meaning) (past : List 
         let q : Quiet k start past (event (Err (OfRing Exhausted)) m) ask =
         record { is = refl; here = refl; nothing = asked_lit inv ask ∙ ap (wanted_by k start past) wants ∙ cond-false (numbers_suffice k start past) (steps_of k start past s claimed) [] numbers } in
         laws_denied k start past s reading m (touches_none q) inv.tops rule (OfRing Exhausted) (λ e. absurd cc)
-        (λ l floor e. run_short (omega arith) (leb-false (top_record k start past + 8) (2 ^ 62 - 1) numbers)))
-        (λ fault left touch little. laws_denied k start past s reading left touch inv.tops rule (OfRing fault) (λ e. absurd cc) (λ l floor e. goes_dark little))
+        (λ l has. run_short (omega arith) (leb-false (top_record k start past + 8) (2 ^ 62 - 1) numbers)))
+        (λ fault left touch little. laws_denied k start past s reading left touch inv.tops rule (OfRing fault) (λ e. absurd cc) (λ l has. goes_dark little))
         answer after m' did
 
   -- by what it wants
@@ -208,8 +209,8 @@ module _ (k : Numbering) (lawful : LawfulKind k) (start : Meaning) (past : List 
       (λ l.
       let is : wish k start ask past ≡ by_floor k s end (next k start s past) 1 (k.floor reading) = rw (lt-ltb s 8 l) refl in
       floor_cases k s end (next k start s past) 1 reading Allows
-      (λ none wants d. quiet Reading wants (λ h. absurd cc) (λ below floor h. absurd (let z : None ≡ Some floor = sym none ∙ h in cc)) d)
-      (λ has high wants d. quiet AboveTop wants (λ h. (l, has)) (λ below floor h. above_top (omega arith)) d)
+      (λ none wants d. quiet Reading wants (λ h. absurd cc) (λ below has. absurd (let z : None ≡ Some has.0 = sym none ∙ has.1 in cc)) d)
+      (λ has high wants d. quiet AboveTop wants (λ h. (l, has)) (λ below floored. above_top (omega arith)) d)
       (λ has up_to inside wants d. drawn_in_hand l has up_to inside wants d)
       (λ has up_to outside wants d. drawn_reserved l has up_to outside wants d)
       is (subst (λ (w : Wish). Does (identified k) u m w answer after m') is d))
@@ -232,7 +233,7 @@ request_more k lawful start past (Down fault) inv s reading answer after m did =
       still_down inv q (λ t. tt),
       laws_denied k start past s reading m (touches_none q) inv.read_tops
           (asks_by_rule k start past s reading (λ lit. absurd (let z : ◌≡◌ {A = Bool} true false = sym inv.unlit ∙ lit in cc)))
-          (WasDown fault) (λ e. absurd cc) (λ l floor e. went_dark inv.unlit),
+          (WasDown fault) (λ e. absurd cc) (λ l has. went_dark inv.unlit),
     )
 
 -- one cut more
@@ -240,7 +241,7 @@ cut_more :
     (k : Numbering) (start : Meaning) (past : List Event) (state : State) → Invariant k start past state →
     (tear supply : ℕ) (answer : Result Sequence ServerFault) (after : State) (m : Meaning) →
     WasCut k (latest start past) supply answer after m →
-    Invariant k start (cut tear supply answer m ∷ past) after × CutLaws k start supply answer m past
+    Invariant k start (cut tear supply answer m ∷ past) after × CutLaws k start supply past answer m
 cut_more k start past (Awake u) inv tear supply answer after m was = cut_while_up k start past tear supply answer after m was u inv
 cut_more k start past (Down fault) inv tear supply answer after m was = cut_while_down k start past tear supply answer after m was inv
 

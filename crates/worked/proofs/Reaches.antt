@@ -12,6 +12,7 @@ use Rattle.ring.specs.Left.{Recovers}
 use Rattle.ring.specs.Operations.{tried, performed, outcome}
 use Rattle.ring.specs.Ring.{slot, top, top_below, live, live_below, known, is_foreign, foreign_below, plan, Sized}
 use Rattle.ring.specs.Search.{Ended, refusal}
+use Rattle.ring.specs.Token.{empty_block, empty_blocks, with_block}
 use Rattle.ring.specs.declared.fault.RingFault.{RingFault}
 use Rattle.ring.specs.declared.ring.Ring.{Ring}
 use Rattle.ring.specs.declared.token.Reserved.{Reserved}
@@ -72,7 +73,11 @@ ring_of reading = record { format = f; known = known f reading }
 
 abbrev up_at : List (List ℕ) → ℕ → Up
 up_at reading n =
-    record { ring = ring_of reading; blocks = set (replicate 8 (record { next = record { 0 = 0 }; end = record { 0 = 0 } })) 2 (record { next = record { 0 = n }; end = record { 0 = n } }) }
+    record { ring = ring_of reading; blocks = with_block (empty_blocks (replicate 8 (record { 0 = 0 }))) 2 (empty_block (record { 0 = n })) }
+
+-- a reservation of series 2
+abbrev reserved : ℕ → ℕ → Reserved
+reserved from to = record { series = 2; start = record { 0 = from }; end = record { 0 = to } }
 
 sized : (reading : List (List ℕ)) → length reading ≡ 10 → Sized f reading
 sized reading e =
@@ -108,7 +113,7 @@ settles :
 settles m p e = record { reads = refl; keeps = refl; spends = e; leaves = refl }
 
 -- record 1 is written and flushed
-ended_first : Ended f 2 (record { 0 = 1 }) start (Ok (record { series = 2; end = record { 0 = 1 } })) (ring_of with_one) after_first
+ended_first : Ended f 2 (record { 0 = 1 }) start (Ok (reserved 0 1)) (ring_of with_one) after_first
 unfolding plan performed outcome live live_below top top_below foreign_below slot content sound little crc register feed shifts shift encoded body bytes_of parts all_zero
 ended_first =
     record {
@@ -130,7 +135,7 @@ reached_first : Reached torn_moves torn_meaning one_by_one cleared_torn (first �
 unfolding plan tried live live_below top top_below foreign_below slot content sound little crc register feed shifts shift encoded body bytes_of parts all_zero
 reached_first =
     gave {d' = torn_at with_one None 1} {s = 2} {reading = record { 0 = 0 }} begun
-    (reserving_by (ring_of with_one) (Ok (record { series = 2; end = record { 0 = 1 } })) refl ended_first (refl, refl))
+    (reserving_by (ring_of with_one) (Ok (reserved 0 1)) refl ended_first (refl, refl))
     (torn_at with_one (holds 1) 2, refl, (torn_at with_one None 1, refl, refl))
 
 -- record 2 is written, and its flush goes dark
@@ -170,7 +175,7 @@ unfolding plan tried live live_below top top_below foreign_below slot content so
 reached_cut = was_cut reached_second (record { left = cut_left; state = refl; told = refl }) refl
 
 -- record 2 is written and flushed
-ended_third : Ended f 2 (record { 0 = 2 }) after_cut (Ok (record { series = 2; end = record { 0 = 2 } })) (ring_of with_two) after_third
+ended_third : Ended f 2 (record { 0 = 2 }) after_cut (Ok (reserved 1 2)) (ring_of with_two) after_third
 unfolding plan performed outcome live live_below top top_below foreign_below slot content sound little crc register feed shifts shift encoded body bytes_of parts all_zero
 ended_third =
     record {
@@ -186,6 +191,6 @@ reached = (
   Awake (up_at with_two 2),
   torn_at with_two None 7,
   gave {d' = torn_at with_two None 7} {s = 2} {reading = record { 0 = 0 }} reached_cut
-      (reserving_by (ring_of with_two) (Ok (record { series = 2; end = record { 0 = 2 } })) refl ended_third (refl, refl))
+      (reserving_by (ring_of with_two) (Ok (reserved 1 2)) refl ended_third (refl, refl))
       (torn_at with_two (Some (record { sector = 2; old = at with_part 2 })) 8, refl, (torn_at with_two None 7, refl, refl)),
 )
