@@ -1,3 +1,4 @@
+pub mod AnyRing
 pub mod Carries
 pub mod Chains
 pub mod Cuts

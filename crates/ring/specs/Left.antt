@@ -34,7 +34,8 @@ pub record ReservedUpTo (f : Format) (s end : ℕ) (before after : List (List �
   pub tops : top f before < top f after
   pub most : top f after ≤ top f before + 8
 
--- sectors with room for a reservation: they recover, the series is one of eight, and eight sequence numbers more suffice
+-- sectors with room for a reservation: they recover, the series is one of eight, and there are eight more
+-- sequence numbers
 pub record HasRoom (f : Format) (s : ℕ) (reading : List (List ℕ)) : Type 0 where
   pub recovers : Recovers f reading
   pub series : s < 8
