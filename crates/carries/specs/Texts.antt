@@ -1,12 +1,13 @@
 -- What is printed of a reservation's answer, and of what recovery finds.
-use Rattle.std.specs.Prelude.{ℕ, ◌-◌, ◌^◌, List, ◌++◌, codes, flat_map, Ok, Err, Result}
+use Rattle.std.specs.Prelude.{ℕ, ◌-◌, ◌^◌, List, ◌++◌, codes, flat_map, Some, None, Ok, Err, Option, Result}
 use Rattle.std.specs.Fmt.{decimal, format_spec, styled_decimal}
 use Rattle.record.specs.declared.numbers.Rank.{Rank}
-use Rattle.disk.specs.Meaning.{name_of}
-use Rattle.ring.specs.Faults.{number_of}
+use Rattle.disk.specs.Faults.{sector_told, name_of}
+use Rattle.ring.specs.Faults.{particulars}
 use Rattle.ring.specs.Ring.{known_ends}
+use Rattle.ring.specs.declared.fault.Interrupted.{Interrupted}
 use Rattle.ring.specs.declared.fault.RingFault.{RingFault}
-use Rattle.ring.specs.declared.fault.RingFault.TheVariants.{Size, Foreign, LiveInGap, Series, End, Exhausted, Disk, Interrupted}
+use Rattle.ring.specs.declared.fault.RingFault.TheVariants.{Interrupted as Stopped}
 use Rattle.ring.specs.declared.fault.Work.{Work}
 use Rattle.ring.specs.declared.fault.Work.TheVariants.{Carry, Reservation}
 use Rattle.ring.specs.declared.ring.Ring.{Ring}
@@ -18,19 +19,19 @@ work_text (Reservation series) = codes "reservation"
 
 -- a denial by its number
 abbrev pub denial_text : RingFault → List ℕ
-denial_text fault = codes "denied with " ++ decimal (number_of fault)
+denial_text fault = codes "denied with " ++ decimal (particulars fault).number
+
+-- a write or flush that was stopped, by its sector where that is told
+abbrev pub stopped_at : Interrupted → Option ℕ → List ℕ
+stopped_at stopped (Some sector) =
+    codes "dark at the " ++ (name_of stopped.fault.operation ++ (codes " of sector "
+    ++ (decimal sector ++ (codes ", " ++ work_text stopped.work))))
+stopped_at stopped None = denial_text (Stopped stopped)
 
 -- a denial of a reservation: where it was stopped, or its number
 abbrev pub stopped_text : RingFault → List ℕ
-stopped_text (Size count) = denial_text (Size count)
-stopped_text (Foreign sector) = denial_text (Foreign sector)
-stopped_text (LiveInGap sector) = denial_text (LiveInGap sector)
-stopped_text (Series series) = denial_text (Series series)
-stopped_text (End end) = denial_text (End end)
-stopped_text Exhausted = denial_text Exhausted
-stopped_text (Disk fault) = denial_text (Disk fault)
-stopped_text (Interrupted stopped) =
-    codes "dark at the " ++ (name_of stopped.fault.operation ++ (codes " of sector " ++ (decimal stopped.fault.sector ++ (codes ", " ++ work_text stopped.work))))
+stopped_text (Stopped stopped) = stopped_at stopped (sector_told stopped.fault)
+stopped_text fault = denial_text fault
 
 -- what a reservation answers
 abbrev pub answer_text : Result ℕ RingFault → List ℕ

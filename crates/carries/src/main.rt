@@ -58,12 +58,14 @@ impl fmt::Display for Answer {
     fn fmt<W: fmt::Write>(&self, f: &mut fmt::Formatter<W>) -> fmt::Result {
         match self.0 {
             Ok(series) => write!(f, "series {series} has reserved                     "),
-            Err(RingFault::Interrupted(stopped)) => {
-                let operation = stopped.fault.operation;
-                let sector = stopped.fault.sector;
-                let doing = Doing(stopped.work);
-                write!(f, "dark at the {operation} of sector {sector}, {doing}")
-            }
+            Err(RingFault::Interrupted(stopped)) => match stopped.fault.sector_told() {
+                Some(sector) => {
+                    let operation = stopped.fault.operation;
+                    let doing = Doing(stopped.work);
+                    write!(f, "dark at the {operation} of sector {sector}, {doing}")
+                }
+                None => write!(f, "denied with {}", stopped.fault.number()),
+            },
             Err(fault) => write!(f, "denied with {}", fault.number()),
         }
     }

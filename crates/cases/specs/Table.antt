@@ -8,7 +8,7 @@ use Rattle.record.specs.Sector.{encoded}
 use Rattle.disk.specs.Meaning.{Meaning}
 use Rattle.kind.specs.Time.{seconds_of, time_floor, time_identifier}
 use Rattle.kind.specs.declared.time.TimeKind.{TimeKind}
-use Rattle.server.specs.Faults.{number_of}
+use Rattle.server.specs.Faults.{particulars}
 use Rattle.server.specs.Rules.{one, Wish, declines, draws, decide, end_at, next_at, woken}
 use Rattle.server.specs.declared.state.Up.{Up}
 use Rattle.simulator.specs.Files.{print_from, print_of_file}
@@ -35,7 +35,7 @@ box_with box byte =
 
 -- the number that a request is refused with; 0 where it is not
 abbrev pub refusal_of : Wish → ℕ
-refusal_of (declines fault) = number_of fault
+refusal_of (declines fault) = (particulars fault).number
 refusal_of (draws s first n claimed) = 0
 
 -- what a case says: a memory, the lines of a request file and the lines of its print; the same of a run that has begun; bytes

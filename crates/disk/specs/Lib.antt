@@ -1,5 +1,6 @@
 pub mod Blank
 pub mod Devices
+pub mod Faults
 pub mod Holding
 pub mod Meaning
 pub mod Memory

@@ -1,12 +1,12 @@
 -- What a disk means, and what its calls do to the meaning.
-use Rattle.std.specs.Prelude.{◌≡◌, ℕ, ◌+◌, false, cond, ◌⊎◌, List, [], codes, length, Ok, Err, Result, ◌==◌, nat_lt, slice_index_or, slice_set}
+use Rattle.std.specs.Prelude.{◌≡◌, ℕ, ◌+◌, false, cond, ◌⊎◌, List, [], length, Ok, Err, Result, ◌==◌, nat_lt, slice_index_or, slice_set}
 use Rattle.std.specs.List.{AllByRecursion}
 use Rattle.record.specs.Sector.{sound}
 use Rattle.disk.specs.declared.fault.Cause.{Cause}
 use Rattle.disk.specs.declared.fault.Cause.TheVariants.{NoSector, Dark}
 use Rattle.disk.specs.declared.fault.DiskFault.{DiskFault}
 use Rattle.disk.specs.declared.fault.Operation.{Operation}
-use Rattle.disk.specs.declared.fault.Operation.TheVariants.{Read, Write, Flush}
+use Rattle.disk.specs.declared.fault.Operation.TheVariants.{Read}
 
 -- what is read from each sector, what each is certain to survive with, how many writes and flushes still succeed,
 -- and the bytes of the disk's memory that lie past its last sector
@@ -28,17 +28,6 @@ count m = length m.reading
 pub record Shaped (m : Meaning) : Type 0 where
   pub bytes : AllByRecursion (λ sector. length sector ≡ 32) m.reading
   pub keeps : length m.kept ≡ length m.reading
-
--- the number of a denial: 3 for a sector that is not there, 12 for darkness
-abbrev pub number_of : Cause → ℕ
-number_of NoSector = 3
-number_of Dark = 12
-
--- the name of an operation
-abbrev pub name_of : Operation → List ℕ
-name_of Read = codes "read"
-name_of Write = codes "write"
-name_of Flush = codes "flush"
 
 -- a denied operation on sector i
 abbrev pub denied : Cause → Operation → ℕ → DiskFault

@@ -1,6 +1,7 @@
 // Why a disk denied a call.
 ghost use Rattle.std.specs.Prelude.{◌≡◌, ◌-◌, Some};
-ghost use Rattle.disk.specs.Meaning.{answered, number_of, name_of};
+ghost use Rattle.disk.specs.Faults.{told, sector_told, name_of};
+ghost use Rattle.disk.specs.Meaning.{answered};
 
 use std::fmt;
 
@@ -43,11 +44,21 @@ pub struct DiskFault {
 impl Cause {
     // The number that a denial for this cause goes by.
     pub fn number(self) -> u8
-        ensures { result ≡ number_of self }
+        ensures { result ≡ (told self).number }
     {
         match self {
             Cause::NoSector => 3,
             Cause::Dark => 12,
+        }
+    }
+
+    // Whether a denial for this cause tells its sector. One of a sector that is not there does not.
+    pub fn tells_sector(self) -> bool
+        ensures { result ≡ (told self).tells_sector }
+    {
+        match self {
+            Cause::NoSector => false,
+            Cause::Dark => true,
         }
     }
 }
@@ -55,9 +66,16 @@ impl Cause {
 impl DiskFault {
     // The number that the denial goes by.
     pub fn number(&self) -> u8
-        ensures { result ≡ number_of self.now.cause }
+        ensures { result ≡ (told self.now.cause).number }
     {
         self.cause.number()
+    }
+
+    // The sector, where the denial tells it.
+    pub fn sector_told(&self) -> Option<usize>
+        ensures { result ≡ sector_told self.now }
+    {
+        self.cause.tells_sector().then_some(self.sector)
     }
 }
 

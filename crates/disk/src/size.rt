@@ -1,6 +1,6 @@
 // The sizes that a disk may have.
 ghost use Rattle.std.specs.Prelude.{◌≡◌};
-ghost use Rattle.disk.specs.Meaning.{number_of};
+ghost use Rattle.disk.specs.Faults.{told};
 ghost use Rattle.disk.specs.declared.fault.Cause.TheVariants.{NoSector};
 ghost use Rattle.disk.specs.Memory.{right_size};
 
@@ -21,7 +21,7 @@ pub struct BadSize<'a> {
 impl BadSize<'_> {
     // The number that the denial goes by.
     pub fn number(&self) -> u8
-        ensures { result ≡ number_of NoSector }
+        ensures { result ≡ (told NoSector).number }
     {
         Cause::NoSector.number()
     }

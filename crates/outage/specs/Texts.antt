@@ -6,25 +6,22 @@ use Rattle.history.specs.declared.calls.Answer.TheVariants.{Give as Gave, Cut as
 use Rattle.history.specs.declared.calls.Call.{Call}
 use Rattle.history.specs.declared.calls.Call.TheVariants.{Give, Cut}
 use Rattle.history.specs.declared.calls.Turn.{Turn}
-use Rattle.server.specs.Faults.{number_of, sector_of}
+use Rattle.server.specs.Faults.{particulars}
 use Rattle.server.specs.declared.fault.ServerFault.{ServerFault}
-use Rattle.server.specs.declared.fault.ServerFault.TheVariants.{Down, Series, Reading, AboveTop, Ring}
 
 -- a number at the right end of two columns
 abbrev pub in_two_columns : ℕ → List ℕ
 in_two_columns n = styled_decimal (format_spec 32 3 0 2 (2 ^ 64 - 1)) n
 
--- the sector that a denial of the ring names
-abbrev pub place_text : ServerFault → List ℕ
-place_text (Down fault) = []
-place_text (Series series) = []
-place_text Reading = []
-place_text AboveTop = []
-place_text (Ring fault) = codes ", sector " ++ decimal (sector_of (Ring fault))
+-- the sector, where a denial tells one
+abbrev pub place_text : Option ℕ → List ℕ
+place_text None = []
+place_text (Some sector) = codes ", sector " ++ decimal sector
 
--- a denial: its number, and the sector where the ring names one
+-- a denial: its number, and the sector where it tells one
 abbrev pub denied_text : ServerFault → List ℕ
-denied_text fault = codes "denied with " ++ (decimal (number_of fault) ++ place_text fault)
+denied_text fault =
+    codes "denied with " ++ (decimal (particulars fault).number ++ place_text (particulars fault).sector)
 
 -- what was asked
 abbrev pub call_text : Call → List ℕ

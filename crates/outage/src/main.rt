@@ -63,7 +63,7 @@ impl fmt::Display for Told {
     }
 }
 
-// A denial, with the sector where the ring names one.
+// A denial, with the sector where it tells one.
 #[derive(Drop)]
 struct Denied(ServerFault);
 
@@ -72,8 +72,8 @@ impl fmt::Display for Denied {
 
     fn fmt<W: fmt::Write>(&self, f: &mut fmt::Formatter<W>) -> fmt::Result {
         write!(f, "denied with {}", self.0.number())?;
-        if let ServerFault::Ring(_) = self.0 {
-            write!(f, ", sector {}", self.0.sector())?;
+        if let Some(sector) = self.0.sector() {
+            write!(f, ", sector {sector}")?;
         }
         Ok(())
     }

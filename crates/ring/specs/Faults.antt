@@ -1,23 +1,40 @@
--- The numbers that the ring's denials go by, and a disk's answer with the work that was under way.
-use Rattle.std.specs.Prelude.{ℕ, Ok, Err, Result}
-use Rattle.disk.specs.Meaning.{number_of as disk_number}
+-- What the ring's denials tell, and a disk's answer with the work that was under way.
+use Rattle.std.specs.Prelude.{ℕ, Some, None, Ok, Err, Result}
+use Rattle.disk.specs.Faults.{told, sector_told}
 use Rattle.disk.specs.declared.fault.DiskFault.{DiskFault}
 use Rattle.ring.specs.declared.fault.Interrupted.{Interrupted}
+use Rattle.ring.specs.declared.fault.Particulars.{Particulars}
 use Rattle.ring.specs.declared.fault.RingFault.{RingFault}
 use Rattle.ring.specs.declared.fault.RingFault.TheVariants.{Size, Foreign, LiveInGap, Series, End, Exhausted, Disk, Interrupted as Stopped}
 use Rattle.ring.specs.declared.fault.Work.{Work}
+use Rattle.ring.specs.declared.fault.Work.TheVariants.{Carry, Reservation}
 
--- the number of a denial: 3 for a size, 5 for a foreign sector, 6 for a live record in the gap, 8 for a series, 4 for an end,
--- 11 where numbers run short, and the disk's own for its denials
-abbrev pub number_of : RingFault → ℕ
-number_of (Size count) = 3
-number_of (Foreign sector) = 5
-number_of (LiveInGap sector) = 6
-number_of (Series series) = 8
-number_of (End end) = 4
-number_of Exhausted = 11
-number_of (Disk fault) = disk_number fault.cause
-number_of (Stopped stopped) = disk_number stopped.fault.cause
+-- a number, and nothing beside it
+abbrev pub numbered : ℕ → Particulars
+numbered number = record { number = number; operation = None; sector = None; work = None; series = None }
+
+-- what a disk's denial tells: the operation, and the sector where the disk tells it
+abbrev pub of_disk : DiskFault → Particulars
+of_disk fault =
+    record (numbered (told fault.cause).number) { operation = Some fault.operation; sector = sector_told fault }
+
+-- the series that is written for
+abbrev pub series_of : Work → ℕ
+series_of (Carry series) = series
+series_of (Reservation series) = series
+
+-- what each denial tells: of a size, a foreign sector, a live record in the gap, a series, an end, numbers that run short, a
+-- read, and a write or a flush with the work that it stopped
+abbrev pub particulars : RingFault → Particulars
+particulars (Size count) = numbered 3
+particulars (Foreign sector) = record (numbered 5) { sector = Some sector }
+particulars (LiveInGap sector) = record (numbered 6) { sector = Some sector }
+particulars (Series series) = record (numbered 8) { series = Some series }
+particulars (End end) = numbered 4
+particulars Exhausted = numbered 11
+particulars (Disk fault) = of_disk fault
+particulars (Stopped stopped) =
+    record (of_disk stopped.fault) { work = Some stopped.work; series = Some (series_of stopped.work) }
 
 -- a disk's answer, a denial with the work that it stopped
 abbrev pub with_work : Work → Result (Unit {0}) DiskFault → Result (Unit {0}) Interrupted

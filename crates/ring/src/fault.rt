@@ -1,9 +1,9 @@
 // Why the ring denied a call.
 ghost use Rattle.std.specs.Prelude.{◌≡◌};
-ghost use Rattle.ring.specs.Faults.{with_work, number_of};
+ghost use Rattle.ring.specs.Faults.{with_work, numbered, of_disk, particulars, series_of};
 ghost use Rattle.ring.specs.declared.fault.RingFault.TheVariants.{Disk, Interrupted as Stopped};
 
-use disk::DiskFault;
+use disk::{DiskFault, Operation};
 use record::Rank;
 
 // What was being written: a copy of another series' live record, or the reservation itself; and for which series.
@@ -41,21 +41,98 @@ pub enum RingFault {
     Interrupted(Interrupted),
 }
 
-impl RingFault {
-    // The number that the denial goes by.
-    pub fn number(&self) -> u8
-        ensures { result ≡ number_of self.now }
+// What a denial tells: its number and, as far as it has them, the operation that was denied, the sector, the work that was
+// stopped, and the series.
+#[derive(Clone, Copy, PartialEq, Eq, Debug)]
+pub struct Particulars {
+    pub number: u8,
+    pub operation: Option<Operation>,
+    pub sector: Option<usize>,
+    pub work: Option<Work>,
+    pub series: Option<u8>,
+}
+
+impl Work {
+    // The series that is written for.
+    pub fn series(self) -> u8
+        ensures { result ≡ series_of self }
     {
         match self {
-            RingFault::Size(_) => 3,
-            RingFault::Foreign(_) => 5,
-            RingFault::LiveInGap(_) => 6,
-            RingFault::Series(_) => 8,
-            RingFault::End(_) => 4,
-            RingFault::Exhausted => 11,
-            RingFault::Disk(fault) => fault.number(),
-            RingFault::Interrupted(stopped) => stopped.fault.number(),
+            Work::Carry(series) | Work::Reservation(series) => series,
         }
+    }
+}
+
+impl Particulars {
+    // A number, and nothing beside it.
+    pub fn numbered(number: u8) -> Particulars
+        ensures { result ≡ numbered number }
+    {
+        Particulars {
+            number,
+            operation: None,
+            sector: None,
+            work: None,
+            series: None,
+        }
+    }
+}
+
+// What a disk's denial tells.
+impl From<DiskFault> for Particulars {
+    ghost from_gives = { λ f r. r ≡ of_disk f };
+
+    fn from(fault: DiskFault) -> Particulars {
+        Particulars {
+            operation: Some(fault.operation),
+            sector: fault.sector_told(),
+            ..Particulars::numbered(fault.number())
+        }
+    }
+}
+
+impl RingFault {
+    // What the denial tells.
+    pub fn particulars(&self) -> Particulars
+        ensures { result ≡ particulars self.now }
+    {
+        match *self {
+            RingFault::Size(_) => Particulars::numbered(3),
+            RingFault::Foreign(sector) => Particulars {
+                sector: Some(sector),
+                ..Particulars::numbered(5)
+            },
+            RingFault::LiveInGap(sector) => Particulars {
+                sector: Some(sector),
+                ..Particulars::numbered(6)
+            },
+            RingFault::Series(series) => Particulars {
+                series: Some(series),
+                ..Particulars::numbered(8)
+            },
+            RingFault::End(_) => Particulars::numbered(4),
+            RingFault::Exhausted => Particulars::numbered(11),
+            RingFault::Disk(fault) => Particulars::from(fault),
+            RingFault::Interrupted(Interrupted { work, fault }) => Particulars {
+                work: Some(work),
+                series: Some(work.series()),
+                ..Particulars::from(fault)
+            },
+        }
+    }
+
+    // The number that the denial goes by.
+    pub fn number(&self) -> u8
+        ensures { result ≡ (particulars self.now).number }
+    {
+        self.particulars().number
+    }
+
+    // The sector, where the denial tells one.
+    pub fn sector(&self) -> Option<usize>
+        ensures { result ≡ (particulars self.now).sector }
+    {
+        self.particulars().sector
     }
 }
 

@@ -6,7 +6,7 @@ mod known;
 mod ring;
 mod token;
 
-pub use fault::{Interrupted, RingFault, Work};
+pub use fault::{Interrupted, Particulars, RingFault, Work};
 pub use known::{Known, Live};
 pub use ring::{Ring, most_operations};
 pub use token::{Blocks, Drawn, Reserved, Unconfirmed, Written};

@@ -1,9 +1,9 @@
 // Why the server denied a call.
 ghost use Rattle.std.specs.Prelude.{◌≡◌};
-ghost use Rattle.server.specs.Faults.{number_of, sector_of, ring_sector};
+ghost use Rattle.server.specs.Faults.{particulars};
 ghost use Rattle.server.specs.declared.fault.ServerFault.TheVariants.{Ring as OfRing};
 
-use ring::RingFault;
+use ring::{Particulars, RingFault};
 
 // A denial of the server.
 #[derive(Clone, Copy, PartialEq, Eq, Debug)]
@@ -21,40 +21,34 @@ pub enum ServerFault {
 }
 
 impl ServerFault {
+    // What the denial tells.
+    pub fn particulars(&self) -> Particulars
+        ensures { result ≡ particulars self.now }
+    {
+        match *self {
+            ServerFault::Down(_) => Particulars::numbered(7),
+            ServerFault::Series(series) => Particulars {
+                series: Some(series),
+                ..Particulars::numbered(8)
+            },
+            ServerFault::Reading => Particulars::numbered(9),
+            ServerFault::AboveTop => Particulars::numbered(10),
+            ServerFault::Ring(fault) => fault.particulars(),
+        }
+    }
+
     // The number that the denial goes by.
     pub fn number(&self) -> u8
-        ensures { result ≡ number_of self.now }
+        ensures { result ≡ (particulars self.now).number }
     {
-        match self {
-            ServerFault::Down(_) => 7,
-            ServerFault::Series(_) => 8,
-            ServerFault::Reading => 9,
-            ServerFault::AboveTop => 10,
-            ServerFault::Ring(fault) => fault.number(),
-        }
+        self.particulars().number
     }
 
-    // The sector that the denial names, 0 where it names none.
-    pub fn sector(&self) -> usize
-        ensures { result ≡ sector_of self.now }
+    // The sector, where the denial tells one.
+    pub fn sector(&self) -> Option<usize>
+        ensures { result ≡ (particulars self.now).sector }
     {
-        match self {
-            ServerFault::Ring(fault) => named_by(*fault),
-            _ => 0,
-        }
-    }
-}
-
-// The sector that a denial of the ring names, 0 where it names none: that is what is printed then, so an Option would only be
-// unwrapped.
-fn named_by(fault: RingFault) -> usize
-    ensures { result ≡ ring_sector fault }
-{
-    match fault {
-        RingFault::Foreign(sector) | RingFault::LiveInGap(sector) => sector,
-        RingFault::Disk(denied) => denied.sector,
-        RingFault::Interrupted(stopped) => stopped.fault.sector,
-        _ => 0,
+        self.particulars().sector
     }
 }
 

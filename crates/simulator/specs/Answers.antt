@@ -1,7 +1,8 @@
 -- What is printed of each answer and of each denial.
-use Rattle.std.specs.Prelude.{ℕ, Bool, cond, ◌&&◌, Ok, Err, Result, nat_le, nat_lt}
-use Rattle.kind.specs.Fault.{number_of as setting_number}
-use Rattle.server.specs.Faults.{number_of as server_number, sector_of}
+use Rattle.std.specs.Prelude.{ℕ, Bool, cond, ◌&&◌, Ok, Err, Result, nat_le, nat_lt, unwrap_or}
+use Rattle.kind.specs.Fault.{number_of}
+use Rattle.server.specs.Faults.{particulars}
+use Rattle.server.specs.declared.fault.ServerFault.{ServerFault}
 use Rattle.simulator.specs.Request.{column_of}
 use Rattle.simulator.specs.declared.answer.Answer.{Answer}
 use Rattle.simulator.specs.declared.answer.Answer.TheVariants.{Set, Given, Woken}
@@ -9,53 +10,38 @@ use Rattle.simulator.specs.declared.answer.Columns.{Columns}
 use Rattle.simulator.specs.declared.answer.Denial.{Denial}
 use Rattle.simulator.specs.declared.answer.Denial.TheVariants.{ShortPrint, Malformed, Ended, TooMany, Size, NoDevice, Setting, NotGiven, NotWoken}
 
--- the number of a denial
-abbrev pub number_of : Denial → ℕ
-number_of ShortPrint = 1
-number_of (Malformed item) = 2
-number_of Ended = 2
-number_of TooMany = 2
-number_of Size = 3
-number_of NoDevice = 4
-number_of (Setting fault) = setting_number fault
-number_of (NotGiven series fault) = server_number fault
-number_of (NotWoken fault) = server_number fault
-
--- the denials 2 to 6 end the run
-abbrev pub ends : Denial → Bool
-ends denial = nat_le 2 (number_of denial) && nat_le (number_of denial) 6
-
 -- a series as it is printed
 abbrev pub shown : ℕ → ℕ
 shown series = cond (nat_lt series 8) series 0
 
--- the last number of a denial: the column of the wrong item, or the sector that the server names
-abbrev pub last_of : Denial → ℕ
-last_of ShortPrint = 0
-last_of (Malformed item) = column_of item
-last_of Ended = 0
-last_of TooMany = 0
-last_of Size = 0
-last_of NoDevice = 0
-last_of (Setting fault) = 0
-last_of (NotGiven series fault) = sector_of fault
-last_of (NotWoken fault) = sector_of fault
+-- a code, and 0 beside it
+abbrev pub coded : ℕ → Columns
+coded code = record { series = 0; code = code; last = 0 }
 
--- the series of a denial
-abbrev pub series_of : Denial → ℕ
-series_of ShortPrint = 0
-series_of (Malformed item) = 0
-series_of Ended = 0
-series_of TooMany = 0
-series_of Size = 0
-series_of NoDevice = 0
-series_of (Setting fault) = 0
-series_of (NotGiven series fault) = shown series
-series_of (NotWoken fault) = 0
+-- a denial of the server: its number, and its sector where it tells one
+abbrev pub of_server : ServerFault → Columns
+of_server fault =
+    record (coded (particulars fault).number) { last = unwrap_or (particulars fault).sector 0 }
+
+-- each denial: its number is the code; a malformed line has the column of the wrong item as the last number
+abbrev pub denial_columns : Denial → Columns
+denial_columns ShortPrint = coded 1
+denial_columns (Malformed item) = record (coded 2) { last = column_of item }
+denial_columns Ended = coded 2
+denial_columns TooMany = coded 2
+denial_columns Size = coded 3
+denial_columns NoDevice = coded 4
+denial_columns (Setting fault) = coded (number_of fault)
+denial_columns (NotGiven series fault) = record (of_server fault) { series = shown series }
+denial_columns (NotWoken fault) = of_server fault
+
+-- the denials 2 to 6 end the run
+abbrev pub ends : Denial → Bool
+ends denial = nat_le 2 (denial_columns denial).code && nat_le (denial_columns denial).code 6
 
 -- series, code and last number of an answer
 abbrev pub columns_of : Result Answer Denial → Columns
-columns_of (Ok Set) = record { series = 0; code = 0; last = 0 }
-columns_of (Ok (Given series identifier)) = record { series = shown series; code = 0; last = identifier.0 }
-columns_of (Ok (Woken top)) = record { series = 0; code = 0; last = top.0 }
-columns_of (Err denial) = record { series = series_of denial; code = number_of denial; last = last_of denial }
+columns_of (Ok Set) = coded 0
+columns_of (Ok (Given series identifier)) = record (coded 0) { series = shown series; last = identifier.0 }
+columns_of (Ok (Woken top)) = record (coded 0) { last = top.0 }
+columns_of (Err denial) = denial_columns denial

@@ -1,6 +1,6 @@
 // What a request line is answered with.
 ghost use Rattle.std.specs.Prelude.{◌≡◌};
-ghost use Rattle.simulator.specs.Answers.{number_of, ends, columns_of, shown};
+ghost use Rattle.simulator.specs.Answers.{coded, of_server, denial_columns, ends, columns_of, shown};
 ghost use Rattle.simulator.specs.declared.answer.Denial.TheVariants.{Malformed, Setting};
 
 use crate::request::Item;
@@ -50,20 +50,58 @@ pub struct Columns {
     pub last: u64,
 }
 
+impl Columns {
+    // A code, and 0 beside it.
+    fn coded(code: u8) -> Columns
+        ensures { result ≡ coded code }
+    {
+        Columns {
+            series: 0,
+            code,
+            last: 0,
+        }
+    }
+
+    // The number of a server's denial, and its sector where it tells one.
+    fn of_server(fault: ServerFault) -> Columns
+        ensures { result ≡ of_server fault }
+    {
+        let told = fault.particulars();
+        Columns {
+            last: told.sector.unwrap_or(0) as u64,
+            ..Columns::coded(told.number)
+        }
+    }
+}
+
 impl Denial {
+    // What is printed of the denial.
+    fn columns(&self) -> Columns
+        ensures { result ≡ denial_columns self.now }
+    {
+        match *self {
+            Denial::ShortPrint => Columns::coded(1),
+            Denial::Malformed(item) => Columns {
+                last: item.column(),
+                ..Columns::coded(2)
+            },
+            Denial::Ended | Denial::TooMany => Columns::coded(2),
+            Denial::Size => Columns::coded(3),
+            Denial::NoDevice => Columns::coded(4),
+            Denial::Setting(fault) => Columns::coded(fault.number()),
+            Denial::NotGiven { series, fault } => Columns {
+                series: shown(series),
+                ..Columns::of_server(fault)
+            },
+            Denial::NotWoken(fault) => Columns::of_server(fault),
+        }
+    }
+
     // The number that the denial goes by.
     pub fn number(&self) -> u8
-        ensures { result ≡ number_of self.now }
+        ensures { result ≡ (denial_columns self.now).code }
     {
-        match self {
-            Denial::ShortPrint => 1,
-            Denial::Malformed(_) | Denial::Ended | Denial::TooMany => 2,
-            Denial::Size => 3,
-            Denial::NoDevice => 4,
-            Denial::Setting(fault) => fault.number(),
-            Denial::NotGiven { fault, .. } => fault.number(),
-            Denial::NotWoken(fault) => fault.number(),
-        }
+        self.columns().code
     }
 
     // Whether the denial ends the run.
@@ -85,17 +123,19 @@ fn shown(series: u64) -> u64
 pub fn columns_of(answer: Result<Answer, Denial>) -> Columns
     ensures { result ≡ columns_of answer }
 {
-    let code = answer.map_or_else(|denial| denial.number(), |_| 0);
-    let (series, last) = match answer {
-        Ok(Answer::Set) => (0, 0),
-        Ok(Answer::Given { series, identifier }) => (shown(series), identifier.0),
-        Ok(Answer::Woken(top)) => (0, top.0),
-        Err(Denial::Malformed(item)) => (0, item.column()),
-        Err(Denial::NotGiven { series, fault }) => (shown(series), fault.sector() as u64),
-        Err(Denial::NotWoken(fault)) => (0, fault.sector() as u64),
-        Err(_) => (0, 0),
-    };
-    Columns { series, code, last }
+    match answer {
+        Ok(Answer::Set) => Columns::coded(0),
+        Ok(Answer::Given { series, identifier }) => Columns {
+            series: shown(series),
+            last: identifier.0,
+            ..Columns::coded(0)
+        },
+        Ok(Answer::Woken(top)) => Columns {
+            last: top.0,
+            ..Columns::coded(0)
+        },
+        Err(denial) => denial.columns(),
+    }
 }
 
 impl From<Item> for Denial {
