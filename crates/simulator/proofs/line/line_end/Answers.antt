@@ -6,7 +6,7 @@ use Rattle.std.proofs.lemmas.Iterator.{YieldsList-from_slice}
 use Rattle.std.proofs.lemmas.Iterator.Search.{position_from_yields_List}
 use Rattle.std.proofs.lemmas.Iterator.Adapters.{position_from-zero}
 use Rattle.simulator.specs.Lines.{end_after}
-use Rattle.simulator.proofs.file.line_end.Goals as goal
+use Rattle.simulator.proofs.line.line_end.Goals as goal
 
 next : {Gives : ℕ → ℕ → Type 0} → ((at n : ℕ) → Gives at n → n ≡ at + 1) → (place end : Option ℕ) → MatchOption place (end ≡ None) (λ at. IsSomeAnd end (Gives at)) → end ≡ option_map (λ at. at + 1) place
 next one None end e = e
