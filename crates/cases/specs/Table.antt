@@ -20,6 +20,7 @@ use Rattle.history.specs.declared.calls.Call.TheVariants.{Give, Cut}
 use Rattle.history.specs.declared.calls.Turn.{Turn}
 use Rattle.simulator.specs.Files.{begun, print_of_lines, turns_of_lines, print_of_file}
 use Rattle.simulator.specs.Kinds.{numbering_of}
+use Rattle.simulator.specs.Lines.{lines_of}
 use Rattle.simulator.specs.Stages.{runs}
 use Rattle.simulator.specs.Takes.{Run}
 use Rattle.simulator.specs.declared.any_kind.AnyKind.{AnyKind}
@@ -69,8 +70,8 @@ pub data Case : Type 0 where
 -- a case holds by the rules
 abbrev pub Holds : Case → Type 0
 Holds (prints memory requests lines) = print_of_file memory (text requests) ≡ text lines
-Holds (goes_on run requests lines) = print_of_lines run (text requests) ≡ text lines
-Holds (calls memory requests turns) = turns_of_lines (begun memory) (text requests) ≡ turns
+Holds (goes_on run requests lines) = print_of_lines (lines_of (text requests)) run ≡ text lines
+Holds (calls memory requests turns) = turns_of_lines (lines_of (text requests)) (begun memory) ≡ turns
 Holds (sums bytes sum) = crc bytes ≡ sum
 Holds (corrects byte seconds) = seconds_of (record { 0 = byte }) ≡ seconds
 Holds (has_floor byte raw floor) = time_floor (box_with 0 byte) (record { 0 = raw }) ≡ Some (record { 0 = floor })

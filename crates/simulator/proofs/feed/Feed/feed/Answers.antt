@@ -4,29 +4,29 @@ use Rattle.std.specs.declared.ops.ControlFlow.{ControlFlow}
 use Rattle.std.specs.declared.ops.ControlFlow.TheVariants.{Continue, Break}
 use Rattle.simulator.specs.Feeds.{Answers}
 use Rattle.simulator.specs.Files.{rows_of}
-use Rattle.simulator.specs.Lines.{line_end, first_bytes, held}
+use Rattle.simulator.specs.Lines.{line_end, first_bytes, lines_of, held}
 use Rattle.simulator.specs.Takes.{Row, row_of, run_of}
 use Rattle.simulator.specs.declared.feed.Feed.{Feed}
-use Rattle.simulator.proofs.Feeds.{line_stops, line_goes_on, still_pending, takes_none, takes_more}
+use Rattle.simulator.proofs.Feeds.{line_goes_on, run_stops, run_goes_on, still_holds, takes_none, takes_more}
 use Rattle.simulator.proofs.feed.Feed.feed.Goals as goal
 
 pub loop-count-init : goal.loop-count-init
-loop-count-init c line pending =
+loop-count-init c line holds =
     record {
       rows = [];
       takes = takes_none c.args.self.now.simulator c.args.print.now.items;
       unended = line;
-      pending = pending;
+      holds = holds;
       splits = λ more. refl;
     }
 
 pub returns-then-is_break : goal.returns-then-is_break
-returns-then-is_break c line pending =
-    let at = c.loop-count.invariant line pending in
+returns-then-is_break c line holds =
+    let at = c.loop-count.invariant line holds in
     let rest = c.loop-count.rest.now in
     let f : Feed = record { simulator = c.loop-count.self.simulator; partial = c.fill.new.self } in
     let ends : line_end rest ≡ Some c.in-Some.count = sym c.fill.ensures.end ∙ c.in-Some.is in
-    let same = c.fill.ensures.holds ∙ ap (λ (xs : List ℕ). take 22 (xs ++ first_bytes rest)) at.pending.holds in
+    let same = c.fill.ensures.holds ∙ ap (λ (xs : List ℕ). take 22 (xs ++ first_bytes rest)) at.holds in
     let stops : c.in_ok-answer.field-0 ≡ Break tt = search rules in
     let a =
     subst (λ (flow : ControlFlow (Unit {0}) (Unit {0})). Answers f c.loop-count.print.items flow c.answer.new.self c.answer.new.print.items) stops c.in_ok-answer.ensures in
@@ -37,16 +37,16 @@ returns-then-is_break c line pending =
           λ more.
           at.splits more
           ∙ ap (λ (rows : List Row). at.rows ++ rows)
-          (line_stops at.unended rest more c.in-Some.count at.pending.goes_on ends f c.answer.new.self c.loop-count.print.items c.answer.new.print.items same a);
+          (run_stops at.unended rest more c.in-Some.count ends f c.answer.new.self c.loop-count.print.items c.answer.new.print.items same a);
     }
 
 pub loop-count-preserved : goal.loop-count-preserved
-loop-count-preserved c line pending =
-    let at = c.loop-count.invariant line pending in
+loop-count-preserved c line holds =
+    let at = c.loop-count.invariant line holds in
     let rest = c.loop-count.rest.now in
     let f : Feed = record { simulator = c.loop-count.self.simulator; partial = c.fill.new.self } in
     let ends : line_end rest ≡ Some c.in-Some.count = sym c.fill.ensures.end ∙ c.in-Some.is in
-    let same = c.fill.ensures.holds ∙ ap (λ (xs : List ℕ). take 22 (xs ++ first_bytes rest)) at.pending.holds in
+    let same = c.fill.ensures.holds ∙ ap (λ (xs : List ℕ). take 22 (xs ++ first_bytes rest)) at.holds in
     let row = row_of (run_of f.simulator) (held f.partial) in
     let goes : c.in_ok-answer.field-0 ≡ Continue tt = search rules in
     let a =
@@ -55,29 +55,29 @@ loop-count-preserved c line pending =
       rows = _;
       takes = takes_more at.takes a.takes;
       unended = [];
-      pending = record { holds = a.empty; goes_on = refl };
+      holds = a.empty;
       splits =
           λ more.
           at.splits more
           ∙ ap (λ (rows : List Row). at.rows ++ rows)
-          (line_goes_on at.unended rest more c.in-Some.count at.pending.goes_on ends f c.answer.new.self c.loop-count.print.items c.answer.new.print.items same a
-          ∙ ap (λ (xs : List ℕ). row ∷ rows_of (run_of c.answer.new.self.simulator) (xs ++ more)) (sym c.after-rest.ensures))
+          (run_goes_on at.unended rest more c.in-Some.count ends f c.answer.new.self c.loop-count.print.items c.answer.new.print.items same a
+          ∙ ap (λ (xs : List ℕ). row ∷ rows_of (lines_of (xs ++ more)) (run_of c.answer.new.self.simulator)) (sym c.after-rest.ensures))
           ∙ sym (append_assoc at.rows (row ∷ []) _);
     }
 
 pub returns : goal.returns
-returns c line pending =
-    let at = c.loop-count.invariant line pending in
+returns c line holds =
+    let at = c.loop-count.invariant line holds in
     let rest = c.loop-count.rest.now in
     let none : line_end rest ≡ None = sym c.fill.ensures.end ∙ c.in_default.is in
     record {
       rows = at.rows;
       takes = at.takes;
       unended = at.unended ++ rest;
-      pending =
-          still_pending c.loop-count.self.partial c.fill.new.self at.unended rest at.pending none c.fill.ensures.holds;
+      holds =
+          still_holds c.loop-count.self.partial c.fill.new.self at.unended rest at.holds none c.fill.ensures.holds;
       splits =
           λ more.
           at.splits more
-          ∙ ap (λ (xs : List ℕ). at.rows ++ rows_of (run_of c.loop-count.self.simulator) xs) (sym (append_assoc at.unended rest more));
+          ∙ ap (λ (lines : List (List ℕ)). at.rows ++ rows_of lines (run_of c.loop-count.self.simulator)) (line_goes_on rest more at.unended none);
     }
