@@ -2,7 +2,6 @@ pub mod Bytes
 pub mod Enough
 pub mod Exact
 pub mod Feeds
-pub mod Files
 pub mod Histories
 pub mod Justified
 pub mod Powers

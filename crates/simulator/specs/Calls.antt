@@ -51,8 +51,8 @@ turn_by (Some answer) None = None
 turn_by None call = None
 
 -- the call that was made for a line, with its answer
-abbrev pub turn_of : List ℕ → Result Answer Denial → Option Turn
-turn_of line answer = turn_by (answer_in answer) (call_in line)
+abbrev pub turn_in : List ℕ → Result Answer Denial → Option Turn
+turn_in line answer = turn_by (answer_in answer) (call_in line)
 
 -- the same for a letter and fields
 abbrev pub turn_for : Command → Fields → Result Answer Denial → Option Turn

@@ -132,7 +132,7 @@ asked (runs make kind state m spare) (Some Give) fields =
     by_fields (runs make kind state m spare) (requested make kind state m spare) (fields Give)
 asked (runs make kind state m spare) (Some Cut) fields =
     by_fields (runs make kind state m spare) (cut_off make kind m spare) (fields Cut)
-asked (has_ended memory) command fields = denied Ended (has_ended memory)
+asked (has_ended kind memory) command fields = denied Ended (has_ended kind memory)
 asked v command fields = unlawful v
 
 -- a line that is taken at a stage: what it is answered, and the stage after it

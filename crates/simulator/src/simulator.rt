@@ -1,7 +1,7 @@
 // The simulator: one call, a request line in and a print line out.
 ghost use Rattle.std.specs.Prelude.{◌≡◌, ℕ, min, List, []};
 ghost use Rattle.simulator.specs.Columns.{NumbersInColumns};
-ghost use Rattle.simulator.specs.Calls.{turn_of, turn_for, Extends};
+ghost use Rattle.simulator.specs.Calls.{turn_in, turn_for, Extends};
 ghost use Rattle.simulator.specs.Devices.{meaning_of, make_of};
 ghost use Rattle.simulator.specs.Histories.{HasServed, RunServed};
 ghost use Rattle.simulator.specs.Stages.{view, awaits_disk, memory_of, runs};
@@ -79,7 +79,7 @@ impl<'a> Simulator<'a> {
     // line of fewer bytes it is denied, and nothing changes.
     pub fn take(&mut self, line: &[u8], print: &mut [u8]) -> Result<Answer, Denial>
         ensures takes { record { answer = result; run = run_of self.new; print = print.new } ≡ taken_by (run_of self.old) line.now print.old }
-        ensures serves { Extends (RunServed self.old.stage) (turn_of line.now result) (RunServed self.new.stage) }
+        ensures serves { Extends (RunServed self.old.stage) (turn_in line.now result) (RunServed self.new.stage) }
         ensures memory { stage_bytes self.new.stage ≡ memory_of (view self.new.stage) }
         ensures numbers { NumbersInColumns }
     {
@@ -95,7 +95,7 @@ impl<'a> Simulator<'a> {
     // What a line that is counted does, and the end of the run where it brings that.
     fn answer(&mut self, line: &[u8]) -> Result<Answer, Denial>
         ensures count { self.new.taken ≡ self.old.taken }
-        ensures serves { Extends (RunServed self.old.stage) (turn_of line.now result) (RunServed self.new.stage) }
+        ensures serves { Extends (RunServed self.old.stage) (turn_in line.now result) (RunServed self.new.stage) }
         ensures answers { record { answer = result; after = view self.new.stage } ≡ ended_by (numbered self.old.taken (view self.old.stage) line.now) }
     {
         let answer = if self.taken > LAST_LINE {
@@ -112,7 +112,7 @@ impl<'a> Simulator<'a> {
     #[tactic(auto, using(crate::proofs::Tears::cut_is, crate::proofs::Tears::cut_keeps_make))]
     fn step(&mut self, line: &[u8]) -> Result<Answer, Denial>
         ensures count { self.new.taken ≡ self.old.taken }
-        ensures serves { Extends (RunServed self.old.stage) (turn_of line.now result) (RunServed self.new.stage) }
+        ensures serves { Extends (RunServed self.old.stage) (turn_in line.now result) (RunServed self.new.stage) }
         ensures steps { record { answer = result; after = view self.new.stage } ≡ step_of (view self.old.stage) line.now }
     {
         match (&mut self.stage, command_in(line)) {
