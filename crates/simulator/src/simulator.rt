@@ -39,7 +39,6 @@ fn asked_series(series: u64) -> u8
 }
 
 // A request of a series at a reading.
-#[tactic(auto, using(crate::proofs::Tears::keeps_make))]
 fn ask(server: &mut Server<Device<'_>, AnyKind>, fields: Fields) -> Result<Answer, Denial>
     ensures serves { Extends (HasServed server.old.kind server.old.state server.old.disk) (turn_for Give fields result) (HasServed server.new.kind server.new.state server.new.disk) }
     ensures asks { (spare : List ℕ) → record { answer = result; after = runs (make_of server.new.disk) server.new.kind server.new.state (meaning_of server.new.disk) spare } ≡ requested (make_of server.old.disk) server.old.kind server.old.state (meaning_of server.old.disk) spare fields }
@@ -109,7 +108,6 @@ impl<'a> Simulator<'a> {
 
     // What a line does, by the stage and the command that its letter stands for. They are matched in place, since a stage passed
     // by value takes 14% longer a line.
-    #[tactic(auto, using(crate::proofs::Tears::cut_is, crate::proofs::Tears::cut_keeps_make))]
     fn step(&mut self, line: &[u8]) -> Result<Answer, Denial>
         ensures count { self.new.taken ≡ self.old.taken }
         ensures serves { Extends (RunServed self.old.stage) (turn_in line.now result) (RunServed self.new.stage) }
