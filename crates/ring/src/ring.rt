@@ -215,7 +215,8 @@ impl Ring {
         ensures untouched { (fault : RingFault) → refusal self.old.format self.old.known.top.0 series end ≡ Some fault → disk.new ≡ disk.old }
         ensures moves { Agrees self.old (D.meaning disk.old) → refusal self.old.format self.old.known.top.0 series end ≡ None → Tried D.moves D.meaning self.old.format series disk.old end.0 disk.new }
         ensures ends { Agrees self.old (D.meaning disk.old) →
-            IfOk result (λ _. known_ends self.new.known ≡ slice_set (known_ends self.old.known) series end) }
+            IfOk result
+            (λ _. known_ends self.new.known ≡ slice_set (known_ends self.old.known) series end) }
     {
         let claim = self.admit(series, end)?;
         let written = self.begin(disk, claim)?;
