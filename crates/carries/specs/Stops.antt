@@ -54,7 +54,8 @@ pub record Stops (cuts : ℕ → ℕ → Meaning → Meaning → Type 0) (start 
   pub woken : Meaning
   pub begins : Cut start supply woken
   pub first : cuts 0 supply start woken
-  pub answers : series_told (outcome (third start) (plan (format start) 7 7 3 start.reading) supply) ≡ answer
+  pub answers :
+      series_told (outcome (third start) (plan (format start) 7 7 3 start.reading) supply) ≡ answer
   pub after : Meaning
   pub goes : Went woken (performed (format start) (plan (format start) 7 7 3 start.reading) supply) after
   pub ends : Cut after 1000 end

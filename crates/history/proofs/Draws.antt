@@ -130,7 +130,9 @@ module _ {A : Type 0} {k : Numbering} {start : Meaning} {past : List Event} {u :
   abbrev after_them : Rank → Block
   after_them to = record { next = record { 0 = first + n }; end = to }
 
-  nexts_drawn : (m' : Meaning) (to : Rank) (t : ℕ) → t < 8 → (block_in (with_block u.blocks s (after_them to)) t).next.0 ≡ next k start t (event (Ok given) m' ∷ past)
+  nexts_drawn :
+      (m' : Meaning) (to : Rank) (t : ℕ) → t < 8 →
+      (block_in (with_block u.blocks s (after_them to)) t).next.0 ≡ next k start t (event (Ok given) m' ∷ past)
   nexts_drawn m' to t l =
       ⊎_elim
       (λ own.
@@ -175,7 +177,8 @@ module _ {A : Type 0} {k : Numbering} {start : Meaning} {past : List Event} {u :
         let own : Series k start (x ∷ past) s end =
         (d.gives m).own end end (inv.series s d.below) d.lawful inside (omega arith) (omega arith) (λ even. rw (standing_none q s None) ((inv.series s d.below).counted (in_blocks_before k x past even))) in
         rw (did.0, did.1, did.2) (
-          up_quiet q inv (with_block u.blocks s (after_them (block_in u.blocks s).end)) (eight_drawn (block_in u.blocks s).end) (nexts_drawn m (block_in u.blocks s).end)
+          up_quiet q inv (with_block u.blocks s (after_them (block_in u.blocks s).end)) (eight_drawn (block_in u.blocks s).end)
+              (nexts_drawn m (block_in u.blocks s).end)
               (ends_drawn (block_in u.blocks s).end (end_in k start m) (inv.ends s d.below) (λ t other. refl))
               (λ t l.
               ⊎_elim
@@ -258,7 +261,9 @@ module _ {A : Type 0} {k : Numbering} {start : Meaning} {past : List Event} {u :
                 let c = claims (Ok given) m' in
                 (d.gives m').own end claimed.end mine d.lawful c.covers (omega (arith, c.above)) (omega (arith, c.near)) (λ even. rw (stands s, eq-eqb s s refl) (counted_after (Ok given) even))
 
-            up_reserved : (ring : Ring) → Agrees ring m' → ring.format ≡ f → IsUp k start (event (Ok given) m' ∷ past) (record { ring = ring; blocks = with_block u.blocks s (after_them to) })
+            up_reserved :
+                (ring : Ring) → Agrees ring m' → ring.format ≡ f →
+                IsUp k start (event (Ok given) m' ∷ past) (record { ring = ring; blocks = with_block u.blocks s (after_them to) })
             up_reserved ring agrees form =
                 let done = reserved_whole f s claimed.end m m' may enough goes in
                 let here = d.leaves (Ok given) m' in

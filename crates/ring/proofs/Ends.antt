@@ -53,7 +53,9 @@ alike_after (settle i ∷ ops) m n after alike went =
     (rest.0, (other, flushed, rest.1), rest.2)
 
 -- a reservation that was answered
-module _ (r : Ring) (m : Meaning) (s : ℕ) (end : Rank) (may : MayReserve r m s end) (reserved : Reserved) (r' : Ring) (m' : Meaning) (ended : Ended r.format s end m (Ok reserved) r' m') where
+module _
+    (r : Ring) (m : Meaning) (s : ℕ) (end : Rank) (may : MayReserve r m s end) (reserved : Reserved) (r' : Ring) (m' : Meaning)
+    (ended : Ended r.format s end m (Ok reserved) r' m') where
   abbrev f : Format
   f = r.format
 
@@ -76,13 +78,17 @@ module _ (r : Ring) (m : Meaning) (s : ℕ) (end : Rank) (may : MayReserve r m s
       ⊎_elim
       (λ l.
       let stopped = (operations_counted f (reservation f m.reading s end) (plan f 7 s end.0 m.reading) m.supply).2 l in
-      absurd (let z : ◌≡◌ {A = Result Reserved RingFault} (Ok reserved) (Err stopped.0) = sym ended.answers ∙ stopped.1 in let y : ◌≡◌ {A = ℕ} 0 1 = cc in omega arith))
+      absurd
+      (let z : ◌≡◌ {A = Result Reserved RingFault} (Ok reserved) (Err stopped.0) = sym ended.answers ∙ stopped.1 in
+      let y : ◌≡◌ {A = ℕ} 0 1 = cc in
+      omega arith))
       (λ l. l)
       (cases_lt m.supply (2 * length (plan f 7 s end.0 m.reading)))
 
   whole : ReservedUpTo f s end.0 m.reading m'.reading
   whole =
-      let goes = alike_after (performed f (plan f 7 s end.0 m.reading) m.supply) m rested m' (record { reading = refl; supply = refl; beyond = refl }) ended.goes in
+      let alike : Alike m rested = record { reading = refl; supply = refl; beyond = refl } in
+      let goes = alike_after (performed f (plan f 7 s end.0 m.reading) m.supply) m rested m' alike ended.goes in
       subst (ReservedUpTo f s end.0 m.reading) goes.2 (reserved_whole f s end.0 rested goes.0 lawful enough goes.1).0
 
   knows_before : (t : ℕ) → t < 8 → (known_end r.known t).0 ≡ end_of f m.reading t

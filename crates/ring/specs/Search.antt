@@ -62,13 +62,18 @@ reservation f reading s end = record { series = s; start = (live f reading s).en
 -- and its record in a sector
 abbrev pub written : Format → List (List ℕ) → ℕ → Rank → ℕ → Written
 written f reading s end sector =
-    record { claim = record { series = s; end = end }; start = (live f reading s).end; sector = sector }
+    record {
+      claim = record { series = s; end = end };
+      start = (live f reading s).end;
+      sector = sector;
+    }
 
 -- a reservation that is done, or that darkness stopped: it answers and does what its plan asks for
 pub record Ended (f : Format) (s : ℕ) (end : Rank) (whole : Meaning) (answer : Result Reserved RingFault) (r : Ring) (m : Meaning) : Type 0 where
   pub agrees : Agrees r m
   pub format : r.format ≡ f
-  pub answers : outcome (reservation f whole.reading s end) (plan f 7 s end.0 whole.reading) whole.supply ≡ answer
+  pub answers :
+      outcome (reservation f whole.reading s end) (plan f 7 s end.0 whole.reading) whole.supply ≡ answer
   pub goes : Went whole (performed f (plan f 7 s end.0 whole.reading) whole.supply) m
 
 -- a reservation that is written: the search has ended, and the record is in the gap

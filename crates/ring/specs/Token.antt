@@ -49,7 +49,8 @@ filled r blocks = with_block blocks r.series (extended r.start r.end (block_in b
 
 -- the rank that a block gives: the next one, but none below a least one, if that is below its end
 abbrev pub rank_of : Rank → Block → Option Rank
-rank_of least b = cond (nat_lt (max b.next.0 least.0) b.end.0) (Some (record { 0 = max b.next.0 least.0 })) None
+rank_of least b =
+    cond (nat_lt (max b.next.0 least.0) b.end.0) (Some (record { 0 = max b.next.0 least.0 })) None
 
 -- what is drawn of a series
 abbrev pub drawn_as : ℕ → Option Rank → Option Drawn
@@ -67,7 +68,8 @@ gone_on (Some rank) b = record { next = record { 0 = rank.0 + 1 }; end = b.end }
 -- the blocks after a draw
 abbrev pub left_by : Option Drawn → Blocks → Blocks
 left_by None blocks = blocks
-left_by (Some d) blocks = with_block blocks d.series (gone_on (Some d.rank) (block_in blocks d.series))
+left_by (Some d) blocks =
+    with_block blocks d.series (gone_on (Some d.rank) (block_in blocks d.series))
 
 -- a rank that may still come out of the block of a series
 abbrev pub Holds : Blocks → ℕ → ℕ → Type 0

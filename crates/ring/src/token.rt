@@ -181,7 +181,8 @@ impl Blocks {
     // Takes over the ranks that were reserved, into the block of their series.
     pub fn fill(&mut self, reserved: Reserved)
         ensures filled { self.new ≡ filled reserved self.old }
-        ensures only { (s rank : ℕ) → Holds self.new s rank → Holds self.old s rank ⊎ Covers reserved s rank }
+        ensures only { (s rank : ℕ) →
+            Holds self.new s rank → Holds self.old s rank ⊎ Covers reserved s rank }
     {
         let Reserved { series, start, end } = reserved;
         if series < 8 {
@@ -194,7 +195,8 @@ impl Blocks {
         ensures drawn { result ≡ drawn series least self.old }
         ensures rest { self.new ≡ left_by result self.old }
         ensures held { IfSome result (λ d. Holds self.old d.series d.rank.0) }
-        ensures once { IfSome result (λ d. (rank : ℕ) → Holds self.new d.series rank → d.rank.0 < rank) }
+        ensures once { IfSome result
+            (λ d. (rank : ℕ) → Holds self.new d.series rank → d.rank.0 < rank) }
         ensures only { (s rank : ℕ) → Holds self.new s rank → Holds self.old s rank }
     {
         if series >= 8 {

@@ -95,14 +95,20 @@ ends-drawn None blocks = refl
 ends-drawn (Some d) blocks = map-set_same (λ (b : Block). b.end) blocks.0 d.series _ no_block refl
 
 -- what a call of the ring's reserve leaves of a server whose ring agrees with its disk
-module _ (u : Up) (m : Meaning) (agrees : Agrees u.ring m) (ends : KnowsEnds u) (s : ℕ) (end : Rank) (ring : Ring) (m' : Meaning) (answer : Result Reserved RingFault) (refused : (fault : RingFault) → refusal u.ring.format u.ring.known.top.0 s end ≡ Some fault → (answer ≡ Err fault) × (ring ≡ u.ring) × (m' ≡ m)) (reserves : Agrees u.ring m → refusal u.ring.format u.ring.known.top.0 s end ≡ None → Ended u.ring.format s end m answer ring m') where
+module _
+    (u : Up) (m : Meaning) (agrees : Agrees u.ring m) (ends : KnowsEnds u) (s : ℕ) (end : Rank) (ring : Ring) (m' : Meaning)
+    (answer : Result Reserved RingFault)
+    (refused : (fault : RingFault) → refusal u.ring.format u.ring.known.top.0 s end ≡ Some fault → (answer ≡ Err fault) × (ring ≡ u.ring) × (m' ≡ m))
+    (reserves : Agrees u.ring m → refusal u.ring.format u.ring.known.top.0 s end ≡ None → Ended u.ring.format s end m answer ring m') where
   all_of : Reserves u.ring m s end answer ring m'
   all_of = record { refused = refused; reserves = reserves agrees }
 
   abbrev value : Reserved
   value = reservation u.ring.format m.reading s end
 
-  not_refused : (reserved : Reserved) → answer ≡ Ok reserved → (o : Option RingFault) → refusal u.ring.format u.ring.known.top.0 s end ≡ o → refusal u.ring.format u.ring.known.top.0 s end ≡ None
+  not_refused :
+      (reserved : Reserved) → answer ≡ Ok reserved → (o : Option RingFault) →
+      refusal u.ring.format u.ring.known.top.0 s end ≡ o → refusal u.ring.format u.ring.known.top.0 s end ≡ None
   not_refused reserved is None e = e
   not_refused reserved is (Some fault) e =
       absurd (let z : ◌≡◌ {A = Result Reserved RingFault} (Ok reserved) (Err fault) = sym is ∙ (refused fault e).0 in let y : ◌≡◌ {A = ℕ} 0 1 = cc in omega arith)
@@ -209,7 +215,9 @@ ready_knows k u m knows s end false u' m' took ends =
         (subst (λ (x : Ring). Ended u.ring.format s end m (Ok (reservation u.ring.format m.reading s end)) x m') (sym same) (took.reserves.reserves e))
         ends
     by_refusal (Some fault) e =
-        absurd (let z : ◌≡◌ {A = Result Reserved RingFault} (Ok (reservation u.ring.format m.reading s end)) (Err fault) = (took.reserves.refused fault e).0 in let y : ◌≡◌ {A = ℕ} 0 1 = cc in omega arith)
+        absurd
+        (let z : ◌≡◌ {A = Result Reserved RingFault} (Ok (reservation u.ring.format m.reading s end)) (Err fault) = (took.reserves.refused fault e).0 in
+        let y : ◌≡◌ {A = ℕ} 0 1 = cc in omega arith)
 
 -- and so does a draw
 pub drawn_knows :
@@ -235,7 +243,8 @@ pub record Asks (k : Numbering) (u : Up) (s : ℕ) (reading : ClockReading) (flo
   pub some : 1 ≤ k.block
 
 -- a request whose block is ready
-module _ {k : Numbering} {u : Up} {s : ℕ} {reading : ClockReading} {floor rank end' : Rank} (asks : Asks k u s reading floor rank end') (m : Meaning) (u' : Up) (m' : Meaning) where
+module _
+    {k : Numbering} {u : Up} {s : ℕ} {reading : ClockReading} {floor rank end' : Rank} (asks : Asks k u s reading floor rank end') (m : Meaning) (u' : Up) (m' : Meaning) where
   abbrev own : Block
   own = block_in u.blocks s
 
@@ -270,11 +279,12 @@ module _ {k : Numbering} {u : Up} {s : ℕ} {reading : ClockReading} {floor rank
   in_hand : rank.0 < own.end.0 → u' ≡ u → m' ≡ m → Gives
   in_hand inside same-up same-meaning = (
     ap (λ (x : Up). drawn s floor x.blocks) same-up ∙ drawn_below u.blocks refl inside,
-    subst (λ (w : Wish). Does (identified k) u m w (Ok (k.identifier s rank)) (Awake (with_blocks u' (left_by (Some d) u'.blocks))) m') (sym (asks_inside k u s reading floor rank asks.below asks.floors asks.is asks.lawful inside)) (
-      refl,
-      ap (λ (x : Up). Awake (with_blocks x (left_by (Some d) x.blocks))) same-up,
-      same-meaning,
-    ),
+    subst (λ (w : Wish). Does (identified k) u m w (Ok (k.identifier s rank)) (Awake (with_blocks u' (left_by (Some d) u'.blocks))) m')
+        (sym (asks_inside k u s reading floor rank asks.below asks.floors asks.is asks.lawful inside)) (
+          refl,
+          ap (λ (x : Up). Awake (with_blocks x (left_by (Some d) x.blocks))) same-up,
+          same-meaning,
+        ),
   )
 
   module _ (outside : own.end.0 ≤ rank.0) where

@@ -148,7 +148,8 @@ tries k (Awake u) m ask = tries_by u m (decide k (end_at u) (next_at u) ask)
 -- after them
 abbrev pub drawn : Up → ℕ → Rank → ℕ → ℕ → State
 drawn u s end first n =
-    Awake (with_blocks u (with_block u.blocks s (record { next = record { 0 = first + n }; end = end })))
+    Awake
+    (with_blocks u (with_block u.blocks s (record { next = record { 0 = first + n }; end = end })))
 
 -- what the ring's answer makes of a draw: it is given after the flush; a denial is passed on
 abbrev pub Answered : {A : Type 0} → Up → ℕ → ℕ → ℕ → A → Ring → Result Reserved RingFault → Result A ServerFault → State → Type 0
