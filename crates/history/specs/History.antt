@@ -233,6 +233,11 @@ standing k start s next_cut (event ∷ past) =
     made k start s next_cut past (asks event)
     ++ standing k start s (cut_from (asks event) (after_of event) next_cut) past
 
+-- one of these covers a rank
+abbrev pub IsCovered : ℕ → List Range → Type 0
+IsCovered rank [] = ⊥
+IsCovered rank (r ∷ older) = ((r.first ≤ rank) × (rank < r.end)) ⊎ IsCovered rank older
+
 -- how many of these were made before the one that covers a rank
 abbrev pub made_before : ℕ → List Range → ℕ
 made_before rank [] = 0
