@@ -6,8 +6,9 @@ use Rattle.record.specs.declared.sector.Format.{Format}
 use Rattle.disk.specs.Meaning.{Meaning}
 use Rattle.ring.specs.Operations.{outcome}
 use Rattle.ring.specs.Ring.{plan, Agrees, Step}
-use Rattle.ring.specs.Search.{Ended, refusal}
+use Rattle.ring.specs.Search.{reservation, Ended, refusal}
 use Rattle.ring.specs.declared.fault.RingFault.{RingFault}
+use Rattle.ring.specs.declared.known.Claim.{Claim}
 use Rattle.ring.specs.declared.ring.Ring.{Ring}
 use Rattle.ring.specs.declared.token.Reserved.{Reserved}
 use Rattle.carries.specs.Stops.{filling, Made, Filled}
@@ -43,8 +44,8 @@ module _ (f : Format) (start : Meaning) (n : ℕ) (r : Ring) (m : Meaning) (so_f
       subst (λ (x : Format). Ended x s end m (Ok reserved) r' m') so_far.format
       (reserves so_far.agrees (not_refused (refusal r.format r.known.top.0 s end) refl))
 
-  asked : reserved ≡ record { series = s; end = end }
-  asked = outcome_is (record { series = s; end = end }) reserved (plan f 7 s end.0 m.reading) m.supply ended.answers
+  asked : reserved ≡ reservation f m.reading s end
+  asked = outcome_is (reservation f m.reading s end) reserved (plan f 7 s end.0 m.reading) m.supply ended.answers
 
   made : Made f (record { series = s; end = end }) m m'
   made = record { answers = ended.answers ∙ ap (λ (x : Reserved). Ok x) asked; goes = ended.goes }
@@ -55,7 +56,7 @@ module _ (f : Format) (start : Meaning) (n : ℕ) (r : Ring) (m : Meaning) (so_f
       record {
         agrees = ended.agrees;
         format = ended.format;
-        made = (m, so_far.made, subst (λ (x : Reserved). Made f x m m') (sym is) made);
+        made = (m, so_far.made, subst (λ (x : Claim). Made f x m m') (sym is) made);
       }
 
 pub filling_each : (n : ℕ) → n < 8 → filling n ≡ record { series = n; end = record { 0 = 1 } }

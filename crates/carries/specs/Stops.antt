@@ -6,7 +6,9 @@ use Rattle.disk.specs.Moves.{Moves}
 use Rattle.ring.specs.Left.{Left}
 use Rattle.ring.specs.Operations.{Went, performed, outcome}
 use Rattle.ring.specs.Ring.{plan, recovered}
+use Rattle.ring.specs.Search.{reservation}
 use Rattle.ring.specs.declared.fault.RingFault.{RingFault}
+use Rattle.ring.specs.declared.known.Claim.{Claim}
 use Rattle.ring.specs.declared.ring.Ring.{Ring}
 use Rattle.ring.specs.declared.token.Reserved.{Reserved}
 
@@ -14,14 +16,17 @@ use Rattle.ring.specs.declared.token.Reserved.{Reserved}
 abbrev pub format : Meaning → Format
 format m = record { tag = 1; top = record { 0 = 999999998 }; sectors = count m }
 
--- the nine reservations that fill the ring, from number 0 on: one of each series, and a second one of series 7
-abbrev pub filling : ℕ → Reserved
+-- the nine reservations that fill the ring by series and end, from number 0 on: one of each series, and a second one of series 7
+abbrev pub filling : ℕ → Claim
 filling n = cond (nat_lt n 8) (record { series = n; end = record { 0 = 1 } }) (record { series = 7; end = record { 0 = 2 } })
 
 -- a reservation that was made: its plan succeeds with the supply there was, and its writes and flushes are all that was done
-pub record Made (f : Format) (r : Reserved) (m after : Meaning) : Type 0 where
-  pub answers : outcome r (plan f 7 r.series r.end.0 m.reading) m.supply ≡ Ok r
-  pub goes : Went m (performed f (plan f 7 r.series r.end.0 m.reading) m.supply) after
+pub record Made (f : Format) (claim : Claim) (m after : Meaning) : Type 0 where
+  pub answers :
+      outcome (reservation f m.reading claim.series claim.end)
+      (plan f 7 claim.series claim.end.0 m.reading) m.supply
+      ≡ Ok (reservation f m.reading claim.series claim.end)
+  pub goes : Went m (performed f (plan f 7 claim.series claim.end.0 m.reading) m.supply) after
 
 -- the first so many of the nine were made, one after the other
 unfoldable pub Filled : Format → Meaning → ℕ → Meaning → Type 0
@@ -29,8 +34,8 @@ Filled f start zero m = m ≡ start
 Filled f start (suc n) m = (before : Meaning) × Filled f start n before × Made f (filling n) before m
 
 -- the third reservation of series 7
-abbrev pub third : Reserved
-third = record { series = 7; end = record { 0 = 3 } }
+abbrev pub third : Meaning → Reserved
+third m = reservation (format m) m.reading 7 (record { 0 = 3 })
 
 -- a reservation's answer as it is told: the series for which it is made, or the fault
 abbrev pub series_told : Result Reserved RingFault → Result ℕ RingFault
@@ -49,7 +54,7 @@ pub record Stops (cuts : ℕ → ℕ → Meaning → Meaning → Type 0) (start 
   pub woken : Meaning
   pub begins : Cut start supply woken
   pub first : cuts 0 supply start woken
-  pub answers : series_told (outcome third (plan (format start) 7 7 3 start.reading) supply) ≡ answer
+  pub answers : series_told (outcome (third start) (plan (format start) 7 7 3 start.reading) supply) ≡ answer
   pub after : Meaning
   pub goes : Went woken (performed (format start) (plan (format start) 7 7 3 start.reading) supply) after
   pub ends : Cut after 1000 end

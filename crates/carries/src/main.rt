@@ -11,7 +11,7 @@ ghost use Rattle.carries.specs.Stops.{format, series_told, Filled, CutBy, Stops,
 
 use disk::{Disk, HoldBack, LatestWrite, MemoryDisk, WriteThrough};
 use record::{Rank, SECTOR_BYTES};
-use ring::{Reserved, Ring, RingFault, Work};
+use ring::{Blocks, Reserved, Ring, RingFault, Work};
 use std::{fmt, io};
 
 const SECTORS: usize = 10;
@@ -102,19 +102,24 @@ impl fmt::Display for Recovered {
 fn fill<D: Disk>(disk: &mut D, ring: &mut Ring) -> Result<(), RingFault>
     ensures { Agrees ring.old (D.meaning disk.old) → IfOk result (λ _. Filled ring.old.format (D.meaning disk.old) 9 (D.meaning disk.new)) }
 {
+    let mut blocks = ring.blocks();
     for series in 0..8u8 {
-        ring.reserve(disk, series, Rank(1))?.let_go();
+        blocks.fill(ring.reserve(disk, series, Rank(1))?);
     }
-    ring.reserve(disk, 7, Rank(2))?.let_go();
+    blocks.fill(ring.reserve(disk, 7, Rank(2))?);
     Ok(())
 }
 
-// What a reservation answered; of one that is made, no rank is drawn.
-fn told(answer: Result<Reserved, RingFault>) -> Answer
+// What a reservation answered. One that is made fills blocks, and no rank is drawn from them.
+fn told(answer: Result<Reserved, RingFault>, mut blocks: Blocks) -> Answer
     ensures { result.0 ≡ series_told answer }
 {
     match answer {
-        Ok(reserved) => Answer(Ok(reserved.let_go())),
+        Ok(reserved) => {
+            let series = reserved.series();
+            blocks.fill(reserved);
+            Answer(Ok(series))
+        }
         Err(fault) => Answer(Err(fault)),
     }
 }
@@ -125,7 +130,8 @@ fn stop<D: Disk>(disk: &mut D, supply: u64, tear: u64) -> Result<(Answer, Recove
 {
     disk.cut(0, supply);
     let mut ring = Ring::recover(disk, TAG, TOP)?;
-    let answer = told(ring.reserve(disk, 7, Rank(3)));
+    let blocks = ring.blocks();
+    let answer = told(ring.reserve(disk, 7, Rank(3)), blocks);
     disk.cut(tear, SUPPLY);
     let recovered = Ring::recover(disk, TAG, TOP);
     Ok((answer, Recovered(recovered)))

@@ -1,18 +1,26 @@
 -- Worked cases of the rules, as a table under one statement.
-use Rattle.std.specs.Prelude.{◌≡◌, ℕ, ◌+◌, ◌*◌, min, List, [], ◌∷◌, ◌++◌, length, replicate, ℤ, pos, negsuc, Some, codes, slice_set}
+use Rattle.std.specs.Prelude.{◌≡◌, ℕ, ◌+◌, ◌*◌, min, List, [], ◌∷◌, ◌++◌, replicate, ℤ, pos, negsuc, Some, Ok, Err, Result, codes, slice_set}
 use Rattle.std.specs.List.{flat_map, AllByRecursion}
 use Rattle.std.proofs.Common.{lit≤, zero-le}
 use Rattle.std.proofs.Math.Nat.{min-le_right}
 use Rattle.record.specs.Crc.{crc}
 use Rattle.record.specs.Sector.{encoded}
+use Rattle.record.specs.declared.numbers.Identifier.{Identifier}
+use Rattle.record.specs.declared.numbers.Sequence.{Sequence}
 use Rattle.disk.specs.Meaning.{Meaning}
 use Rattle.kind.specs.Time.{seconds_of, time_floor, time_identifier}
 use Rattle.kind.specs.declared.time.TimeKind.{TimeKind}
 use Rattle.server.specs.Faults.{particulars}
 use Rattle.server.specs.Rules.{one, Wish, declines, draws, decide, end_at, next_at, woken}
+use Rattle.server.specs.declared.fault.ServerFault.{ServerFault}
+use Rattle.server.specs.declared.fault.ServerFault.TheVariants.{Series}
 use Rattle.server.specs.declared.state.Up.{Up}
-use Rattle.simulator.specs.Files.{print_from, print_of_file}
+use Rattle.history.specs.declared.calls.Answer.TheVariants.{Give as OfGive, Cut as OfCut}
+use Rattle.history.specs.declared.calls.Call.TheVariants.{Give, Cut}
+use Rattle.history.specs.declared.calls.Turn.{Turn}
+use Rattle.simulator.specs.Files.{print_of_lines, print_of_file, turns_of_file}
 use Rattle.simulator.specs.Kinds.{numbering_of}
+use Rattle.simulator.specs.Lines.{lines_of}
 use Rattle.simulator.specs.Stages.{runs}
 use Rattle.simulator.specs.Takes.{Run}
 use Rattle.simulator.specs.declared.any_kind.AnyKind.{AnyKind}
@@ -38,12 +46,22 @@ abbrev pub refusal_of : Wish → ℕ
 refusal_of (declines fault) = (particulars fault).number
 refusal_of (draws s first n claimed) = 0
 
--- what a case says: a memory, the lines of a request file and the lines of its print; the same of a run that has begun; bytes
--- and their checksum; a byte and its correction; a correction byte, a raw reading and its floor; the same, and the number that
--- a request is denied with; box, millisecond, series, step and their identifier
+-- a call of a server, and what it answered: a request of a series at a reading, or a cut with its tear and its new supply
+abbrev pub asked : ℕ → ℕ → Result Identifier ServerFault → Turn
+asked s reading answer =
+    record { call = Give s (record { 0 = reading }); answer = Some (OfGive answer) }
+
+abbrev pub cut_off : ℕ → ℕ → Result Sequence ServerFault → Turn
+cut_off tear supply answer = record { call = Cut tear supply; answer = Some (OfCut answer) }
+
+-- what a case says: a memory, the lines of a request file and the lines of its print; the same of a run that has begun; a
+-- memory, the lines of a request file, and the calls that are made for them; bytes and their checksum; a byte and its
+-- correction; a correction byte, a raw reading and its floor; the same, and the number that a request is denied with; box,
+-- millisecond, series, step and their identifier
 pub data Case : Type 0 where
   prints : List ℕ → List (List ℕ) → List (List ℕ) → Case
   goes_on : Run → List (List ℕ) → List (List ℕ) → Case
+  calls : List ℕ → List (List ℕ) → List Turn → Case
   sums : List ℕ → ℕ → Case
   corrects : ℕ → ℤ → Case
   has_floor : ℕ → ℕ → ℕ → Case
@@ -53,7 +71,8 @@ pub data Case : Type 0 where
 -- a case holds by the rules
 abbrev pub Holds : Case → Type 0
 Holds (prints memory requests lines) = print_of_file memory (text requests) ≡ text lines
-Holds (goes_on run requests lines) = print_from (length requests) (text requests) run ≡ text lines
+Holds (goes_on run requests lines) = print_of_lines (lines_of (text requests)) run ≡ text lines
+Holds (calls memory requests turns) = turns_of_file memory (text requests) ≡ turns
 Holds (sums bytes sum) = crc bytes ≡ sum
 Holds (corrects byte seconds) = seconds_of (record { 0 = byte }) ≡ seconds
 Holds (has_floor byte raw floor) = time_floor (box_with 0 byte) (record { 0 = raw }) ≡ Some (record { 0 = floor })
@@ -95,6 +114,21 @@ table =
     (codes "D    1            10" ∷ codes "S    3             0" ∷ codes "G    2             0" ∷ codes "C    0             1" ∷ codes "G    2             0" ∷ codes "C    0             9" ∷ codes "G    2             0" ∷ [])
     (codes "     1   0  0                   0" ∷ codes "     2   0  0                   0" ∷ codes "     3   2  0                   1" ∷ codes "     4   0  0                   1" ∷ codes "     5   2 12                   2" ∷ codes "     6   0  0                   1" ∷ codes "     7   2  0                   4" ∷ [])
     ∷ prints memory [] []
+    ∷ calls memory
+    (codes "D    1            10"
+    ∷ codes "S    3             0"
+    ∷ codes "G    2             0"
+    ∷ codes "G  300             7"
+    ∷ codes "C    5             9"
+    ∷ codes "G    2             0"
+    ∷ codes "G    8            +0"
+    ∷ codes "G    2             0"
+    ∷ [])
+    (asked 2 0 (Ok (record { 0 = 1 }))
+    ∷ asked 255 7 (Err (Series 255))
+    ∷ cut_off 5 9 (Ok (record { 0 = 1 }))
+    ∷ asked 2 0 (Ok (record { 0 = 4 }))
+    ∷ [])
     ∷ sums (codes "123456789") 0xCBF43926
     ∷ sums [] 0
     ∷ corrects 127 (pos 127)

@@ -8,12 +8,12 @@ ghost use Rattle.cases.specs.Table.{table, EveryCaseHolds};
 fn rows() -> usize
     ensures { result ≡ length table }
 {
-    14
+    15
 }
 
-// How many cases the table has, each of which holds: three request files and their whole prints, checksums, corrections,
-// floors, an identifier, and the last serial identifier. A file's print is computed by the definitions that the simulator's call
-// has for its contract.
+// How many cases the table has, each of which holds: three request files and their whole prints, the calls that are made for the
+// lines of one, checksums, corrections, floors, an identifier, and the last serial identifier. A file's print and its calls are
+// computed by the definitions that the simulator has for its contracts.
 pub fn worked_cases() -> usize
     ensures count { result ≡ length table }
     ensures hold { EveryCaseHolds }

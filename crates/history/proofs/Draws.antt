@@ -9,19 +9,20 @@ use Rattle.disk.specs.Meaning.{Meaning}
 use Rattle.kind.specs.Meaning.{Numbering}
 use Rattle.ring.specs.Operations.{Went, performed, writes_in}
 use Rattle.ring.specs.Ring.{known, Step, Agrees}
-use Rattle.ring.specs.Search.{Ended, refusal}
+use Rattle.ring.specs.Search.{reservation, Ended, refusal}
 use Rattle.ring.specs.declared.fault.RingFault.{RingFault}
 use Rattle.ring.specs.declared.fault.RingFault.TheVariants.{Exhausted}
-use Rattle.ring.specs.Token.{empty_block}
+use Rattle.ring.specs.Token.{empty_block, block_in, with_block}
 use Rattle.ring.specs.declared.known.Known.{Known}
 use Rattle.ring.specs.declared.ring.Ring.{Ring}
 use Rattle.ring.specs.declared.token.Block.{Block}
 use Rattle.ring.specs.declared.token.Reserved.{Reserved}
-use Rattle.ring.proofs.Leaves.{operations_counted, cut_within, reserved_whole, seven_carries, tops_counted}
+use Rattle.ring.proofs.Leaves.{operations_counted, cut_within, reserved_whole, tops_counted}
+use Rattle.ring.proofs.Plans.{some_steps as plan_some}
 use Rattle.ring.proofs.Starts.{agrees_recovers}
 use Rattle.server.proofs.Requests.{stopped_tells, outcome_is}
 use Rattle.history.specs.History.{of_eight, lost, Event, asks, told, after_of, latest, end_in, next, wish, steps_of, wanted_by, asked, succeeded, floor_by, floor_since, standing, top_record, numbers_suffice, loss, cuts_since, wanted, too_little, dark, writes, left_standing, reserved_by}
-use Rattle.server.specs.Rules.{format, Ask, Range, draws, decide, end_at, next_at, drawn, block_in, with_ring, stopped, Answered, Reserving, Wish}
+use Rattle.server.specs.Rules.{format, Ask, Range, draws, decide, end_at, next_at, drawn, with_ring, stopped, Answered, Reserving, Wish}
 use Rattle.server.specs.declared.fault.ServerFault.{ServerFault}
 use Rattle.server.specs.declared.fault.ServerFault.TheVariants.{Ring as OfRing}
 use Rattle.server.specs.declared.state.State.{State}
@@ -29,14 +30,9 @@ use Rattle.server.specs.declared.state.Up.{Up}
 use Rattle.history.proofs.Invariant.{IsUp, Invariant, IsDown}
 use Rattle.history.proofs.Quiet.{Quiet, touches_none, standing_none, series_quiet, asked_lit, up_quiet, dark_is, writes_is, standing_is}
 use Rattle.history.proofs.Series.{InBlocks, in_blocks_before, Series, GivesNone, Counted, keeps, loss_more, series_kept}
-use Rattle.ring.specs.Left.{Recovers, LawfulReservation, Follows, stops, carries}
+use Rattle.ring.specs.Left.{Recovers, LawfulReservation}
 use Rattle.history.proofs.Given.{counted_more}
 use Rattle.history.proofs.Wakes.{standing_lit}
-
--- a plan has at least one write
-follows_some : (f : Format) (s end : ℕ) (reading : List (List ℕ)) (steps : List Step) → Follows f s end reading steps → 1 ≤ length steps
-follows_some f s end reading steps (stops e) = omega arith
-follows_some f s end reading steps (carries q e rest) = omega arith
 
 -- what is flushed stands; what is not stands as the next cut leaves it
 module _ (k : Numbering) (start : Meaning) (t supply : ℕ) (x : Option Meaning) (s first n : ℕ) (claimed : Range) where
@@ -61,7 +57,7 @@ pub record Claims (k : Numbering) (Even : Type 0) (lost end next floor first n :
 -- what a reservation is refused for, where series and end are lawful
 refusal_is : (f : Format) (t s : ℕ) (end : Rank) (b : Bool) → s < 8 → 0 < end.0 → end.0 ≤ f.top.0 + 1 → leb (t + 8) (2 ^ 62 - 1) ≡ b → refusal f t s end ≡ cond b None (Some Exhausted)
 refusal_is f t s end b below some upper e =
-    rw (lt-ltb s 8 below, lt-ltb 0 end.0 some, le-leb end.0 (f.top.0 + 1) upper, e) refl
+    rw (lt-ltb 0 end.0 some, le-leb end.0 (f.top.0 + 1) upper, lt-ltb s 8 below, e) refl
 
 -- no block
 abbrev no_block : Block
@@ -83,7 +79,7 @@ module _ {k : Numbering} {start : Meaning} {past : List Event} {u : Up} (inv : I
       (ap (λ (x : ℕ). leb (x + 8) (2 ^ 62 - 1)) top-known ∙ numbers)
 
   past_the_blocks : (s : ℕ) → 8 ≤ s → block_in u.blocks s ≡ no_block
-  past_the_blocks s l = get_or_past u.blocks s no_block (omega (arith, inv.eight))
+  past_the_blocks s l = get_or_past u.blocks.0 s no_block (omega (arith, inv.eight))
 
   same_ends : (s : ℕ) → end_at u s ≡ of_eight (end_in k start (latest start past)) s
   same_ends s =
@@ -134,36 +130,36 @@ module _ {A : Type 0} {k : Numbering} {start : Meaning} {past : List Event} {u :
   abbrev after_them : Rank → Block
   after_them to = record { next = record { 0 = first + n }; end = to }
 
-  nexts_drawn : (m' : Meaning) (to : Rank) (t : ℕ) → t < 8 → (block_in (set u.blocks s (after_them to)) t).next.0 ≡ next k start t (event (Ok given) m' ∷ past)
+  nexts_drawn : (m' : Meaning) (to : Rank) (t : ℕ) → t < 8 → (block_in (with_block u.blocks s (after_them to)) t).next.0 ≡ next k start t (event (Ok given) m' ∷ past)
   nexts_drawn m' to t l =
       ⊎_elim
       (λ own.
-      subst (λ (x : ℕ). (block_in (set u.blocks s (after_them to)) x).next.0 ≡ next k start x (event (Ok given) m' ∷ past)) own
-      (let here : s < length u.blocks = omega (arith, inv.eight, d.below) in
-      ap (λ (b : Block). b.next.0) (get_or-set_same u.blocks s (after_them to) no_block here) ∙ sym (d.gives m').next_own))
+      subst (λ (x : ℕ). (block_in (with_block u.blocks s (after_them to)) x).next.0 ≡ next k start x (event (Ok given) m' ∷ past)) own
+      (let here : s < length u.blocks.0 = omega (arith, inv.eight, d.below) in
+      ap (λ (b : Block). b.next.0) (get_or-set_same u.blocks.0 s (after_them to) no_block here) ∙ sym (d.gives m').next_own))
       (λ other.
-      ap (λ (b : Block). b.next.0) (get_or-set_other u.blocks s t (after_them to) no_block (λ e. other (sym e)))
+      ap (λ (b : Block). b.next.0) (get_or-set_other u.blocks.0 s t (after_them to) no_block (λ e. other (sym e)))
       ∙ inv.nexts t l
       ∙ sym ((d.gives m').next_others t other))
       (cases_eq s t)
 
   ends_drawn :
       (to : Rank) (ends : ℕ → ℕ) → to.0 ≡ ends s → ((t : ℕ) → t ≢ s → ends t ≡ end_in k start m t) →
-      (t : ℕ) → t < 8 → (block_in (set u.blocks s (after_them to)) t).end.0 ≡ ends t
+      (t : ℕ) → t < 8 → (block_in (with_block u.blocks s (after_them to)) t).end.0 ≡ ends t
   ends_drawn to ends own others t l =
       ⊎_elim
       (λ same.
-      subst (λ (x : ℕ). (block_in (set u.blocks s (after_them to)) x).end.0 ≡ ends x) same
-      (let here : s < length u.blocks = omega (arith, inv.eight, d.below) in
-      ap (λ (b : Block). b.end.0) (get_or-set_same u.blocks s (after_them to) no_block here) ∙ own))
+      subst (λ (x : ℕ). (block_in (with_block u.blocks s (after_them to)) x).end.0 ≡ ends x) same
+      (let here : s < length u.blocks.0 = omega (arith, inv.eight, d.below) in
+      ap (λ (b : Block). b.end.0) (get_or-set_same u.blocks.0 s (after_them to) no_block here) ∙ own))
       (λ other.
-      ap (λ (b : Block). b.end.0) (get_or-set_other u.blocks s t (after_them to) no_block (λ e. other (sym e)))
+      ap (λ (b : Block). b.end.0) (get_or-set_other u.blocks.0 s t (after_them to) no_block (λ e. other (sym e)))
       ∙ inv.ends t l
       ∙ sym (others t (λ e. other (sym e))))
       (cases_eq s t)
 
-  eight_drawn : (to : Rank) → length (set u.blocks s (after_them to)) ≡ 8
-  eight_drawn to = length-set u.blocks s (after_them to) ∙ inv.eight
+  eight_drawn : (to : Rank) → length (set u.blocks.0 s (after_them to)) ≡ 8
+  eight_drawn to = length-set u.blocks.0 s (after_them to) ∙ inv.eight
 
   -- with what else holds of the call by its answer, as it is shown where the ranks are given, where numbers run short and where the
   -- disk goes dark
@@ -179,7 +175,7 @@ module _ {A : Type 0} {k : Numbering} {start : Meaning} {past : List Event} {u :
         let own : Series k start (x ∷ past) s end =
         (d.gives m).own end end (inv.series s d.below) d.lawful inside (omega arith) (omega arith) (λ even. rw (standing_none q s None) ((inv.series s d.below).counted (in_blocks_before k x past even))) in
         rw (did.0, did.1, did.2) (
-          up_quiet q inv (set u.blocks s (after_them (block_in u.blocks s).end)) (eight_drawn (block_in u.blocks s).end) (nexts_drawn m (block_in u.blocks s).end)
+          up_quiet q inv (with_block u.blocks s (after_them (block_in u.blocks s).end)) (eight_drawn (block_in u.blocks s).end) (nexts_drawn m (block_in u.blocks s).end)
               (ends_drawn (block_in u.blocks s).end (end_in k start m) (inv.ends s d.below) (λ t other. refl))
               (λ t l.
               ⊎_elim
@@ -198,7 +194,7 @@ module _ {A : Type 0} {k : Numbering} {start : Meaning} {past : List Event} {u :
       steps = steps_of k start past s claimed
 
       abbrev value : Reserved
-      value = record { series = s; end = to }
+      value = reservation (format k start) m.reading s to
 
       abbrev f : Format
       f = format k start
@@ -227,7 +223,7 @@ module _ {A : Type 0} {k : Numbering} {start : Meaning} {past : List Event} {u :
             }
 
         some_steps : 1 ≤ length steps
-        some_steps = follows_some f s claimed.end m.reading steps (seven_carries f s claimed.end m may).0
+        some_steps = plan_some f 7 s claimed.end m.reading
 
         -- the disk goes by the plan
         module _ (m' : Meaning) (goes : Went m (performed f steps m.supply) m') where
@@ -262,7 +258,7 @@ module _ {A : Type 0} {k : Numbering} {start : Meaning} {past : List Event} {u :
                 let c = claims (Ok given) m' in
                 (d.gives m').own end claimed.end mine d.lawful c.covers (omega (arith, c.above)) (omega (arith, c.near)) (λ even. rw (stands s, eq-eqb s s refl) (counted_after (Ok given) even))
 
-            up_reserved : (ring : Ring) → Agrees ring m' → ring.format ≡ f → IsUp k start (event (Ok given) m' ∷ past) (record { ring = ring; blocks = set u.blocks s (after_them to) })
+            up_reserved : (ring : Ring) → Agrees ring m' → ring.format ≡ f → IsUp k start (event (Ok given) m' ∷ past) (record { ring = ring; blocks = with_block u.blocks s (after_them to) })
             up_reserved ring agrees form =
                 let done = reserved_whole f s claimed.end m m' may enough goes in
                 let here = d.leaves (Ok given) m' in

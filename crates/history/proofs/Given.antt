@@ -7,17 +7,19 @@ use Rattle.record.specs.declared.numbers.Reading.{Reading}
 use Rattle.disk.specs.Meaning.{Meaning}
 use Rattle.kind.specs.Meaning.{Numbering, LawfulKind}
 use Rattle.history.specs.History.{Event, rank_of, after_last, labels, made_before}
-use Rattle.history.specs.Promise.{Rising}
+use Rattle.history.specs.Promise.{Rising, HasFloor}
 use Rattle.server.specs.Rules.{Range}
 use Rattle.history.proofs.Series.{Series, Label, Counted, blocks}
 
 -- the identifier of a rank from next on is the kind's for this rank and no other, and above all that were given before
 pub rises :
-    (k : Numbering) → LawfulKind k → (start : Meaning) (past : List Event) (s end : ℕ) (reading : Reading) → s < 8 → Series k start past s end →
-    rank_of k start s reading past ≤ k.top.0 → Rising k start s reading past (k.identifier s (record { 0 = rank_of k start s reading past }))
-rises k lawful start past s end reading below inv up_to =
+    (k : Numbering) → LawfulKind k → (start : Meaning) (past : List Event) (s end : ℕ) (reading : Reading) → s < 8 → HasFloor k reading →
+    Series k start past s end → rank_of k start s reading past ≤ k.top.0 → Rising k start s reading past (k.identifier s (record { 0 = rank_of k start s reading past }))
+rises k lawful start past s end reading below has inv up_to =
     let rank : ℕ = rank_of k start s reading past in
     record {
+      series = below;
+      floor = has;
       lawful = up_to;
       told = refl;
       only = λ r l e.

@@ -17,7 +17,7 @@ pub record IsUp (k : Numbering) (start : Meaning) (past : List Event) (u : Up) :
   pub agrees : Agrees u.ring (latest start past)
   pub form : u.ring.format ≡ format k start
   pub kept : (latest start past).kept ≡ (latest start past).reading
-  pub eight : length u.blocks ≡ 8
+  pub eight : length u.blocks.0 ≡ 8
   pub nexts : (s : ℕ) → s < 8 → next_at u s ≡ next k start s past
   pub ends : (s : ℕ) → s < 8 → end_at u s ≡ end_in k start (latest start past) s
   pub series : (s : ℕ) → s < 8 → Series k start past s (end_in k start (latest start past) s)

@@ -3,7 +3,9 @@ pub mod Draws
 pub mod Given
 pub mod Invariant
 pub mod Obeys
+pub mod Outright
 pub mod Quiet
+pub mod Rule
 pub mod Series
 pub mod Serves
 pub mod Tries

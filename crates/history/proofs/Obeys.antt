@@ -2,7 +2,6 @@
 use Rattle.std.proofs.Common.{⊎_elim, ◌≡◌, ℕ, ◌+◌, ◌-◌, ◌*◌, ◌^◌, ◌<◌, ◌≤◌, Bool, true, false, List, [], ◌∷◌, length, Some, None, Ok, Err, Result, sym, refl, ap, ◌∙◌, subst, arith}
 use Rattle.std.proofs.lemmas.Bool.{cases_lt, lt-ltb, le-ltb, eq-eqb, ne_eqb, or_left, cond-false, cond-true, leb-false}
 use Rattle.record.specs.declared.numbers.Identifier.{Identifier}
-use Rattle.record.specs.declared.numbers.Rank.{Rank}
 use Rattle.record.specs.declared.numbers.Reading.{Reading as ClockReading}
 use Rattle.record.specs.declared.numbers.Sequence.{Sequence}
 use Rattle.disk.specs.Meaning.{Meaning}
@@ -13,8 +12,9 @@ use Rattle.ring.specs.Operations.{Op, Went, tried, Chain}
 use Rattle.ring.specs.Ring.{known}
 use Rattle.ring.specs.declared.fault.RingFault.TheVariants.{Exhausted}
 use Rattle.history.specs.History.{lost, loss, cuts_since, Event, request, cut, told, latest, end_in, next, rank_of, floor_of, wish, steps_of, wanted_by, wanted, asked, succeeded, too_little, dark, writes, standing, top_record, numbers_suffice}
-use Rattle.history.specs.Promise.{FloorsZero, Rising, WithinLoss, Ground, goes_dark, went_dark, above_top, run_short, RequestLaws, CutLaws, Obeys, Reached, begun, gave, was_cut, GoesOver, EveryHistoryObeys}
-use Rattle.server.specs.Rules.{format, Ask, one, tries, Range, Wish, declines, draws, by_floor, block_in, drawn, identified, Reserving, Does, Gave, WasCut}
+use Rattle.history.specs.Promise.{FloorsZero, HasFloor, AsksByRule, Rising, WithinLoss, Ground, goes_dark, went_dark, above_top, run_short, RequestLaws, CutLaws, Obeys, Reached, begun, gave, was_cut, GoesOver, EveryHistoryObeys}
+use Rattle.ring.specs.Token.{block_in}
+use Rattle.server.specs.Rules.{format, Ask, one, tries, Range, Wish, declines, draws, by_floor, drawn, identified, Reserving, Does, Gave, WasCut}
 use Rattle.server.specs.declared.fault.ServerFault.{ServerFault}
 use Rattle.server.specs.declared.fault.ServerFault.TheVariants.{Down as WasDown, Series as NoSeries, Reading, AboveTop, Ring as OfRing}
 use Rattle.server.specs.declared.state.State.{State}
@@ -24,6 +24,7 @@ use Rattle.history.proofs.Decides.{floor_cases, block, claims}
 use Rattle.history.proofs.Draws.{Given, Draws, decides, draws_in_hand, draws_reserved}
 use Rattle.history.proofs.Given.{Covered, rises, hi_lo_of}
 use Rattle.history.proofs.Invariant.{IsUp, IsDown, Invariant}
+use Rattle.history.proofs.Rule.{asks_by_rule, up_recovers}
 use Rattle.history.proofs.Quiet.{Quiet, dark_is, touches_none, writes_none, standing_none, series_quiet, numbers_last, asked_lit, up_quiet}
 use Rattle.history.proofs.Series.{in_blocks_before, lost_block, lost_more, loss_more, Series, GivesNone, keeps, series_given}
 use Rattle.history.proofs.Tries.{tries_asked, wish_reserves}
@@ -55,18 +56,19 @@ module _ {k : Numbering} {start : Meaning} {past : List Event} {event : Event} {
       }
 
 -- the laws of a request that is denied, and of one that is given
-module _ (k : Numbering) (start : Meaning) (past : List Event) (s : ℕ) (reading : ClockReading) (after : Meaning) (touch : Went (latest start past) (succeeded k start (one s reading) past) after) (tops : top_record k start past ≤ writes k start past) where
+module _ (k : Numbering) (start : Meaning) (past : List Event) (s : ℕ) (reading : ClockReading) (after : Meaning) (touch : Went (latest start past) (succeeded k start (one s reading) past) after) (tops : top_record k start past ≤ writes k start past) (rule : AsksByRule k start s reading past (asked k start (one s reading) past)) where
   laws_denied :
-      (fault : ServerFault) → (fault ≡ AboveTop → WithinLoss k start s reading past) →
-      (s < 8 → (floor : Rank) → k.floor reading ≡ Some floor → Ground k start s reading past) → RequestLaws k start s reading (Err fault) after past
+      (fault : ServerFault) → (fault ≡ AboveTop → (s < 8) × HasFloor k reading × WithinLoss k start s reading past) →
+      (s < 8 → HasFloor k reading → Ground k start s reading past) → RequestLaws k start s reading past (Err fault) after
   laws_denied fault within ground =
       record {
         touches = touch;
+        by_rule = rule;
         rising = λ x e. absurd (err_not_ok x e);
         loses = λ x e. absurd (err_not_ok x e);
         loses_above = λ e. within (let same : fault ≡ AboveTop = cc in same);
-        denied = λ l floor e _. ground l floor e;
-        denies = λ l floor e _. (fault, refl);
+        denied = λ l has _. ground l has;
+        denies = λ l has _. (fault, refl);
         lasts = numbers_last (top_record k start past) (writes k start past) tops;
         hi_lo = λ zeros x e. absurd (err_not_ok x e);
       }
@@ -77,15 +79,16 @@ module _ (k : Numbering) (start : Meaning) (past : List Event) (s : ℕ) (readin
   laws_given :
       (identifier : Identifier) → Rising k start s reading past identifier → WithinLoss k start s reading past → (Ground k start s reading past → ⊥) →
       (FloorsZero k → Covered k.block (rank_of k start s reading past) (standing k start s None (request s reading (Ok identifier) after ∷ past))) →
-      RequestLaws k start s reading (Ok identifier) after past
+      RequestLaws k start s reading past (Ok identifier) after
   laws_given identifier rising within no_ground covers =
       record {
         touches = touch;
+        by_rule = rule;
         rising = λ x e. let same : identifier ≡ x = cc in subst (Rising k start s reading past) same rising;
         loses = λ x e. within;
-        loses_above = λ e. within;
-        denied = λ l floor e d. absurd (let z : Ok identifier ≡ Err d.0 = d.1 in cc);
-        denies = λ l floor e g. absurd (no_ground g);
+        loses_above = λ e. absurd cc;
+        denied = λ l has d. absurd (let z : Ok identifier ≡ Err d.0 = d.1 in cc);
+        denies = λ l has g. absurd (no_ground g);
         lasts = numbers_last (top_record k start past) (writes k start past) tops;
         hi_lo = λ zeros x e. let c = covers zeros in record { lo = c.lo; below = c.below; sum = c.sum };
       }
@@ -97,10 +100,13 @@ within_loss k start past s end reading inv = omega (arith, inv.bound)
 -- what one call more leaves and obeys
 abbrev AfterRequest : Numbering → Meaning → List Event → ℕ → ClockReading → Result Identifier ServerFault → State → Meaning → Type 0
 AfterRequest k start past s reading answer after m =
-    Invariant k start (request s reading answer m ∷ past) after × RequestLaws k start s reading answer m past
+    Invariant k start (request s reading answer m ∷ past) after × RequestLaws k start s reading past answer m
 
 -- a request to a server that is up
 module _ (k : Numbering) (lawful : LawfulKind k) (start : Meaning) (past : List Event) (u : Up) (inv : IsUp k start past u) (s : ℕ) (reading : ClockReading) (answer : Result Identifier ServerFault) (after : State) (m' : Meaning) where
+  rule : AsksByRule k start s reading past (asked k start (one s reading) past)
+  rule = asks_by_rule k start past s reading (λ lit. up_recovers inv)
+
   abbrev m : Meaning
   m = latest start past
 
@@ -121,21 +127,21 @@ module _ (k : Numbering) (lawful : LawfulKind k) (start : Meaning) (past : List 
 
   -- what else holds of it, by its answer
   abbrev Also : Result Identifier ServerFault → Meaning → Type 0
-  Also r left = RequestLaws k start s reading r left past
+  Also r left = RequestLaws k start s reading past r left
 
   -- declined, and nothing touched
   quiet :
-      (fault : ServerFault) → wish k start ask past ≡ declines fault → (fault ≡ AboveTop → s < 8) →
-      (s < 8 → (floor : Rank) → k.floor reading ≡ Some floor → Ground k start s reading past) →
+      (fault : ServerFault) → wish k start ask past ≡ declines fault → (fault ≡ AboveTop → (s < 8) × HasFloor k reading) →
+      (s < 8 → HasFloor k reading → Ground k start s reading past) →
       (answer ≡ Err fault) × (after ≡ Awake u) × (m' ≡ m) → AfterRequest k start past s reading answer after m'
   quiet fault wants known ground did =
       let q : Quiet k start past (event (Err fault) m) ask = record { is = refl; here = refl; nothing = asked_lit inv ask ∙ ap (wanted_by k start past) wants } in
       rw (did.0, did.1, did.2) (
         up_quiet q inv u.blocks inv.eight inv.nexts inv.ends (λ t l. series_quiet q (inv.series t l) tt),
-        laws_denied k start past s reading m (touches_none q) inv.tops fault (λ e. within_loss k start past s end reading (inv.series s (known e))) ground,
+        laws_denied k start past s reading m (touches_none q) inv.tops rule fault (λ e. let is = known e in (is.0, is.1, within_loss k start past s end reading (inv.series s is.0))) ground,
       )
 
-  module _ (below : s < 8) (up_to : rank + 1 ≤ k.top.0 + 1) where
+  module _ (below : s < 8) (has : HasFloor k reading) (up_to : rank + 1 ≤ k.top.0 + 1) where
     mine : Series k start past s end
     mine = inv.series s below
 
@@ -170,8 +176,8 @@ module _ (k : Numbering) (lawful : LawfulKind k) (start : Meaning) (past : List 
         (left : Meaning) (to : ℕ) → Went m (succeeded k start ask past) left → Series k start (event (Ok identifier) left ∷ past) s to → rank + 1 ≤ to →
         2 * length (asked k start ask past) ≤ m.supply → (end < rank + 1 → top_record k start past + 8 ≤ 2 ^ 62 - 1) → Also (Ok identifier) left
     laws_drawn left to touch own inside enough suffices =
-        laws_given k start past s reading left touch inv.tops identifier
-        (rises k lawful start past s end reading below mine (omega arith)) (within_loss k start past s end reading mine) (no_ground enough suffices)
+        laws_given k start past s reading left touch inv.tops rule identifier
+        (rises k lawful start past s end reading below has mine (omega arith)) (within_loss k start past s end reading mine) (no_ground enough suffices)
         (λ zeros. hi_lo_of k rank to (standing k start s None (event (Ok identifier) left ∷ past)) (own.counted zeros) (omega arith))
 
     drawn_in_hand : rank + 1 ≤ end → wish k start ask past ≡ draws s rank 1 None → (answer ≡ Ok identifier) × (after ≡ drawn u s (block_in u.blocks s).end rank 1) × (m' ≡ m) → AfterRequest k start past s reading answer after m'
@@ -186,9 +192,9 @@ module _ (k : Numbering) (lawful : LawfulKind k) (start : Meaning) (past : List 
         (λ numbers.
         let q : Quiet k start past (event (Err (OfRing Exhausted)) m) ask =
         record { is = refl; here = refl; nothing = asked_lit inv ask ∙ ap (wanted_by k start past) wants ∙ cond-false (numbers_suffice k start past) (steps_of k start past s claimed) [] numbers } in
-        laws_denied k start past s reading m (touches_none q) inv.tops (OfRing Exhausted) (λ e. within_loss k start past s end reading mine)
-        (λ l floor e. run_short (omega arith) (leb-false (top_record k start past + 8) (2 ^ 62 - 1) numbers)))
-        (λ fault left touch little. laws_denied k start past s reading left touch inv.tops (OfRing fault) (λ e. within_loss k start past s end reading mine) (λ l floor e. goes_dark little))
+        laws_denied k start past s reading m (touches_none q) inv.tops rule (OfRing Exhausted) (λ e. absurd cc)
+        (λ l has. run_short (omega arith) (leb-false (top_record k start past + 8) (2 ^ 62 - 1) numbers)))
+        (λ fault left touch little. laws_denied k start past s reading left touch inv.tops rule (OfRing fault) (λ e. absurd cc) (λ l has. goes_dark little))
         answer after m' did
 
   -- by what it wants
@@ -202,10 +208,10 @@ module _ (k : Numbering) (lawful : LawfulKind k) (start : Meaning) (past : List 
       (λ l.
       let is : wish k start ask past ≡ by_floor k s end (next k start s past) 1 (k.floor reading) = rw (lt-ltb s 8 l) refl in
       floor_cases k s end (next k start s past) 1 reading Allows
-      (λ none wants d. quiet Reading wants (λ h. l) (λ below floor h. absurd (let z : None ≡ Some floor = sym none ∙ h in cc)) d)
-      (λ high wants d. quiet AboveTop wants (λ h. l) (λ below floor h. above_top (omega arith)) d)
-      (λ up_to inside wants d. drawn_in_hand l up_to inside wants d)
-      (λ up_to outside wants d. drawn_reserved l up_to outside wants d)
+      (λ none wants d. quiet Reading wants (λ h. absurd cc) (λ below has. absurd (let z : None ≡ Some has.0 = sym none ∙ has.1 in cc)) d)
+      (λ has high wants d. quiet AboveTop wants (λ h. (l, has)) (λ below floored. above_top (omega arith)) d)
+      (λ has up_to inside wants d. drawn_in_hand l has up_to inside wants d)
+      (λ has up_to outside wants d. drawn_reserved l has up_to outside wants d)
       is (subst (λ (w : Wish). Does (identified k) u m w answer after m') is d))
       (λ l.
       let is : wish k start ask past ≡ declines (NoSeries s) = rw (le-ltb s 8 l) refl in
@@ -224,7 +230,9 @@ request_more k lawful start past (Down fault) inv s reading answer after m did =
     record { is = refl; here = refl; nothing = cond-true (dark k start past) [] (wanted k start (one s reading) past) inv.unlit } in
     rw (did.0, did.1, did.2) (
       still_down inv q (λ t. tt),
-      laws_denied k start past s reading m (touches_none q) inv.read_tops (WasDown fault) (λ e. absurd cc) (λ l floor e. went_dark inv.unlit),
+      laws_denied k start past s reading m (touches_none q) inv.read_tops
+          (asks_by_rule k start past s reading (λ lit. absurd (let z : ◌≡◌ {A = Bool} true false = sym inv.unlit ∙ lit in cc)))
+          (WasDown fault) (λ e. absurd cc) (λ l has. went_dark inv.unlit),
     )
 
 -- one cut more
@@ -232,7 +240,7 @@ cut_more :
     (k : Numbering) (start : Meaning) (past : List Event) (state : State) → Invariant k start past state →
     (tear supply : ℕ) (answer : Result Sequence ServerFault) (after : State) (m : Meaning) →
     WasCut k (latest start past) supply answer after m →
-    Invariant k start (cut tear supply answer m ∷ past) after × CutLaws k start supply answer m past
+    Invariant k start (cut tear supply answer m ∷ past) after × CutLaws k start supply past answer m
 cut_more k start past (Awake u) inv tear supply answer after m was = cut_while_up k start past tear supply answer after m was u inv
 cut_more k start past (Down fault) inv tear supply answer after m was = cut_while_down k start past tear supply answer after m was inv
 

@@ -5,7 +5,7 @@ use Rattle.disk.specs.Meaning.{Meaning}
 use Rattle.kind.specs.Meaning.{Numbering}
 use Rattle.ring.specs.Operations.{Op, Went, performed, writes_in}
 use Rattle.ring.specs.Ring.{Step}
-use Rattle.ring.specs.declared.token.Block.{Block}
+use Rattle.ring.specs.declared.token.Blocks.{Blocks}
 use Rattle.history.specs.History.{Event, asks, told, after_of, latest, end_in, next, wish, wanted, asked, succeeded, too_little, dark_by, dark, writes_by, writes, reserved_by, made, cut_from, standing}
 use Rattle.server.specs.Rules.{format, Ask, Range, Wish, draws, end_at, next_at}
 use Rattle.server.specs.declared.state.Up.{Up}
@@ -67,7 +67,7 @@ module _ {k : Numbering} {start : Meaning} {past : List Event} {event : Event} {
 
   -- a server that is up stays up, with the blocks in hand after it
   pub up_quiet :
-      {u : Up} → IsUp k start past u → (blocks : List Block) → length blocks ≡ 8 →
+      {u : Up} → IsUp k start past u → (blocks : Blocks) → length blocks.0 ≡ 8 →
       ((s : ℕ) → s < 8 → next_at (record { ring = u.ring; blocks = blocks }) s ≡ next k start s (event ∷ past)) →
       ((s : ℕ) → s < 8 → end_at (record { ring = u.ring; blocks = blocks }) s ≡ end_in k start (latest start past) s) →
       ((s : ℕ) → s < 8 → Series k start (event ∷ past) s (end_in k start (latest start past) s)) →

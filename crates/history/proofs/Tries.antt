@@ -78,8 +78,8 @@ wish_reserves k lawful start past (one s reading) =
     let is : wish k start (one s reading) past ≡ by_floor k s (end_in k start (latest start past) s) (next k start s past) 1 (k.floor reading) = rw (lt-ltb s 8 l) refl in
     subst (Reservable k) (sym is)
     (floor_cases k s (end_in k start (latest start past) s) (next k start s past) 1 reading (Reservable k)
-    (λ none. tt) (λ high. tt) (λ up_to inside. tt)
-    (λ up_to outside. (l, omega (arith, lawful.least), omega arith))))
+    (λ none. tt) (λ has high. tt) (λ has up_to inside. tt)
+    (λ has up_to outside. (l, omega (arith, lawful.least), omega arith))))
     (λ l.
     let is : wish k start (one s reading) past ≡ declines (Series s) = rw (le-ltb s 8 l) refl in
     subst (Reservable k) (sym is) tt)

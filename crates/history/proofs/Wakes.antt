@@ -15,11 +15,11 @@ use Rattle.ring.specs.Ring.{top, known, known_end, recovered, Step}
 use Rattle.ring.specs.declared.ring.Ring.{Ring}
 use Rattle.ring.proofs.Cuts.{cut_at_rest}
 use Rattle.ring.proofs.Starts.{blank_recovers, blank_top, blank_end, recovers_answer, recovers_agrees, agrees_recovers, known_end_is}
-use Rattle.ring.specs.Token.{empty_block}
+use Rattle.ring.specs.Token.{empty_block, empty_blocks, block_in}
 use Rattle.ring.specs.declared.token.Block.{Block}
 use Rattle.history.specs.History.{lost, Event, cut, after_of, asks, latest, end_in, wish, wanted, too_little, dark_by, dark, asked, writes, reserved_by, made, cut_from, standing}
 use Rattle.history.specs.Promise.{CutLaws}
-use Rattle.server.specs.Rules.{format, Ask, Range, Wish, draws, woken, awake, top_told, block_in, end_at, next_at, WasCut}
+use Rattle.server.specs.Rules.{format, Ask, Range, Wish, draws, woken, awake, top_told, end_at, next_at, WasCut}
 use Rattle.server.specs.declared.fault.ServerFault.{ServerFault}
 use Rattle.server.specs.declared.state.State.{State}
 use Rattle.server.specs.declared.state.State.TheVariants.{Up as Awake}
@@ -33,7 +33,7 @@ ring_of k start m = record { format = format k start; known = known (format k st
 
 abbrev pub up_of : Numbering → Meaning → Meaning → Up
 up_of k start m =
-    record { ring = ring_of k start m; blocks = map empty_block (map (known_end (known (format k start) m.reading)) (range_with_len 0 8)) }
+    record { ring = ring_of k start m; blocks = empty_blocks (map (known_end (known (format k start) m.reading)) (range_with_len 0 8)) }
 
 module _ (k : Numbering) (start : Meaning) (m : Meaning) (recovers : Recovers (format k start) m.reading) where
   same_format : format k m ≡ format k start
@@ -137,7 +137,7 @@ module _ (k : Numbering) (start : Meaning) (past : List Event) (tear supply : �
   woken_again :
       Recovers (format k start) m.reading → ((s : ℕ) → s < 8 → Series k start (cut tear supply answer m ∷ past) s (end_in k start m s)) →
       top (format k start) m.reading ≤ writes k start past →
-      Invariant k start (cut tear supply answer m ∷ past) after × CutLaws k start supply answer m past
+      Invariant k start (cut tear supply answer m ∷ past) after × CutLaws k start supply past answer m
   woken_again recovers series tops = (
     subst (Invariant k start (cut tear supply answer m ∷ past)) (sym (was.state ∙ wakes k start m recovers))
         (record {
@@ -154,7 +154,7 @@ module _ (k : Numbering) (start : Meaning) (past : List Event) (tear supply : �
     record { leaves = was.left; tells = was.told ∙ tells k start m recovers },
   )
 
-  pub cut_while_up : (u : Up) → IsUp k start past u → Invariant k start (cut tear supply answer m ∷ past) after × CutLaws k start supply answer m past
+  pub cut_while_up : (u : Up) → IsUp k start past u → Invariant k start (cut tear supply answer m ∷ past) after × CutLaws k start supply past answer m
   cut_while_up u inv =
       let f = format k start in
       let same : m.reading ≡ (latest start past).reading = cut_at_rest (latest start past) m supply inv.kept was.left in
@@ -200,7 +200,7 @@ module _ (k : Numbering) (start : Meaning) (past : List Event) (tear supply : �
       (omega (arith, inv.most))
       (λ zeros. rw (e, st) (inv.counted zeros))
 
-  pub cut_while_down : IsDown k start past → Invariant k start (cut tear supply answer m ∷ past) after × CutLaws k start supply answer m past
+  pub cut_while_down : IsDown k start past → Invariant k start (cut tear supply answer m ∷ past) after × CutLaws k start supply past answer m
   cut_while_down inv =
       let l = inv.leaves m supply was.left in
       woken_again l.recovers

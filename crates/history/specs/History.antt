@@ -1,5 +1,5 @@
 -- Histories of a server: the calls that were made, what each answered, and what the disk was after it; and what they tell.
-use Rattle.std.specs.Prelude.{ℕ, ◌+◌, ◌-◌, ◌*◌, ◌^◌, max, Bool, true, false, cond, ◌&&◌, ◌||◌, List, [], ◌∷◌, ◌++◌, length, Some, None, Ok, Err, Option, Result, ◌==◌, nat_le, nat_lt}
+use Rattle.std.specs.Prelude.{ℕ, ◌+◌, ◌-◌, ◌*◌, ◌^◌, max, Bool, true, false, if◌then◌else◌, ◌&&◌, ◌||◌, List, [], ◌∷◌, ◌++◌, length, Some, None, Ok, Err, Option, Result, ◌==◌, nat_le, nat_lt}
 use Rattle.record.specs.declared.numbers.Identifier.{Identifier}
 use Rattle.record.specs.declared.numbers.Rank.{Rank}
 use Rattle.record.specs.declared.numbers.Reading.{Reading}
@@ -59,10 +59,10 @@ floor_of k reading = or_zero (k.floor reading)
 abbrev pub end_in : Numbering → Meaning → Meaning → ℕ → ℕ
 end_in k start m s = end_of (format k start) m.reading s
 
--- next: one above the last rank given in the series since the latest cut or the start, or else the series' end as the disk
--- read right after that cut or start
+-- next, which starts anew at each cut: the successor of the newest rank that the series has given since, and while it has given
+-- none, its end on the disk that the cut left (before any cut, on the first disk)
 abbrev pub next_by : Numbering → Meaning → ℕ → Told → ℕ → ℕ
-next_by k start s (gave t reading n xs) was = cond (t == s) (max was (floor_of k reading) + n) was
+next_by k start s (gave t reading n xs) was = if t == s then max was (floor_of k reading) + n else was
 next_by k start s (woke m) was = end_in k start m s
 next_by k start s tells was = was
 
@@ -70,13 +70,13 @@ abbrev pub next : Numbering → Meaning → ℕ → List Event → ℕ
 next k start s [] = end_in k start start s
 next k start s (event ∷ past) = next_by k start s (told event) (next k start s past)
 
--- the rank of a request: the larger of next and the reading's floor
+-- the rank of a request: next, or the reading's floor where that is higher
 abbrev pub rank_of : Numbering → Meaning → ℕ → Reading → List Event → ℕ
 rank_of k start s reading past = max (next k start s past) (floor_of k reading)
 
--- one above the last rank given in the series, 0 where none was
+-- the successor of the newest rank that the series has given, cuts or not; 0 before the first
 abbrev pub after_by : Numbering → ℕ → Told → ℕ → ℕ → ℕ
-after_by k s (gave t reading n xs) next was = cond (t == s) (max next (floor_of k reading) + n) was
+after_by k s (gave t reading n xs) next was = if t == s then max next (floor_of k reading) + n else was
 after_by k s tells next was = was
 
 abbrev pub after_last : Numbering → Meaning → ℕ → List Event → ℕ
@@ -84,10 +84,10 @@ after_last k start s [] = 0
 after_last k start s (event ∷ past) =
     after_by k s (told event) (next k start s past) (after_last k start s past)
 
--- the highest floor of the series' requests since a rank was last given in it, 0 without one
+-- of the requests that the series has denied since it last gave a rank, the highest floor; 0 without one
 abbrev pub floor_by : Numbering → ℕ → Told → ℕ → ℕ
-floor_by k s (gave t reading n xs) was = cond (t == s) 0 was
-floor_by k s (refused t reading) was = cond (t == s) (max was (floor_of k reading)) was
+floor_by k s (gave t reading n xs) was = if t == s then 0 else was
+floor_by k s (refused t reading) was = if t == s then max was (floor_of k reading) else was
 floor_by k s tells was = was
 
 abbrev pub floor_since : Numbering → ℕ → List Event → ℕ
@@ -96,7 +96,7 @@ floor_since k s (event ∷ past) = floor_by k s (told event) (floor_since k s pa
 
 -- the cuts since a rank was last given in the series
 abbrev pub cuts_by : ℕ → Told → ℕ → ℕ
-cuts_by s (gave t reading n xs) was = cond (t == s) 0 was
+cuts_by s (gave t reading n xs) was = if t == s then 0 else was
 cuts_by s (woke m) was = was + 1
 cuts_by s tells was = was
 
@@ -119,7 +119,7 @@ pushed (x ∷ xs) was = pushed xs (x ∷ was)
 
 -- the identifiers given in a series, the newest first
 abbrev pub labels_by : ℕ → Told → List Identifier → List Identifier
-labels_by s (gave t reading n xs) was = cond (t == s) (pushed xs was) was
+labels_by s (gave t reading n xs) was = if t == s then pushed xs was else was
 labels_by s tells was = was
 
 abbrev pub labels : ℕ → List Event → List Identifier
@@ -128,12 +128,15 @@ labels s (event ∷ past) = labels_by s (told event) (labels s past)
 
 -- what is told of the eight series; 0 of any other
 abbrev pub of_eight : (ℕ → ℕ) → ℕ → ℕ
-of_eight tells s = cond (nat_lt s 8) (tells s) 0
+of_eight tells s = if nat_lt s 8 then tells s else 0
 
 -- what a call wants of a server that is up: the rule by which a server decides, by what calls and disk tell
 abbrev pub wish : Numbering → Meaning → Ask → List Event → Wish
 wish k start ask past =
-    decide k (of_eight (end_in k start (latest start past))) (of_eight (λ s. next k start s past)) ask
+    decide k
+    (of_eight (end_in k start (latest start past)))
+    (of_eight (λ s. next k start s past))
+    ask
 
 -- the top record as the disk reads
 abbrev pub top_record : Numbering → Meaning → List Event → ℕ
@@ -150,7 +153,7 @@ steps_of k start past s claimed = plan (format k start) 7 s claimed.end (latest 
 -- the writes that a wish asks for: those of the reservation that it claims, as long as numbers suffice, and else none
 abbrev pub wanted_by : Numbering → Meaning → List Event → Wish → List Step
 wanted_by k start past (draws s first n (Some claimed)) =
-    cond (numbers_suffice k start past) (steps_of k start past s claimed) []
+    if numbers_suffice k start past then steps_of k start past s claimed else []
 wanted_by k start past want = []
 
 -- the writes that a call asks for on a server that is up
@@ -173,7 +176,7 @@ dark k start (event ∷ past) = dark_by k start past (dark k start past) (asks e
 
 -- the writes that a call asks for: none where the disk went dark before
 abbrev pub asked : Numbering → Meaning → Ask → List Event → List Step
-asked k start ask past = cond (dark k start past) [] (wanted k start ask past)
+asked k start ask past = if dark k start past then [] else wanted k start ask past
 
 -- the operations of a call that succeed
 abbrev pub succeeded : Numbering → Meaning → Ask → List Event → List Op
@@ -202,19 +205,21 @@ left_standing k start s end (Some left) = end_in k start left s == end
 -- whether a reservation of these writes stands: a flushed one does, any other as the next cut left it
 abbrev pub stood : Numbering → Meaning → ℕ → ℕ → ℕ → Option Meaning → List Step → Bool
 stood k start s end supply next_cut steps =
-    cond (too_little supply steps) (left_standing k start s end next_cut) true
+    if too_little supply steps then left_standing k start s end next_cut else true
 
 -- the reservation of a series that these writes make, if it stands
-abbrev pub reserved_by : Numbering → Meaning → ℕ → ℕ → Option Meaning → Wish → List Step → List Range
+abbrev pub reserved_by :
+    Numbering → Meaning → ℕ → ℕ → Option Meaning → Wish → List Step → List Range
 reserved_by k start s supply next_cut (draws t first n (Some claimed)) (step ∷ steps) =
-    cond (t == s && stood k start s claimed.end supply next_cut (step ∷ steps)) (claimed ∷ []) []
+    if t == s && stood k start s claimed.end supply next_cut (step ∷ steps) then claimed ∷ [] else []
 reserved_by k start s supply next_cut want steps = []
 
 -- the reservation of a series that a call made, if it stands; next_cut is what the first cut after it left, if there was one
 abbrev pub made : Numbering → Meaning → ℕ → Option Meaning → List Event → Option Ask → List Range
 made k start s next_cut past None = []
 made k start s next_cut past (Some ask) =
-    reserved_by k start s (latest start past).supply next_cut (wish k start ask past) (asked k start ask past)
+    reserved_by k start s (latest start past).supply next_cut
+    (wish k start ask past) (asked k start ask past)
 
 -- what the first cut left from an event on: the event's own disk where it asks nothing
 abbrev pub cut_from : Option Ask → Meaning → Option Meaning → Option Meaning
@@ -232,4 +237,4 @@ standing k start s next_cut (event ∷ past) =
 abbrev pub made_before : ℕ → List Range → ℕ
 made_before rank [] = 0
 made_before rank (r ∷ older) =
-    cond (nat_le r.first rank && nat_lt rank r.end) (length older) (made_before rank older)
+    if nat_le r.first rank && nat_lt rank r.end then length older else made_before rank older

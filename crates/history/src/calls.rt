@@ -28,8 +28,12 @@ pub enum Answer {
 #[tactic(auto, using(crate::proofs::Obeys::every_history_obeys, crate::proofs::Serves::request_made, crate::proofs::Serves::cut_made))]
 pub fn make<D: Disk, K: Kind>(server: &mut Server<D, K>, call: Call) -> Answer
     ensures kind { server.new.kind ≡ server.old.kind }
-    ensures extends { (first : D) (past : List Event) → Reached D.moves D.meaning (K.numbering server.old.kind) first past server.old.state server.old.disk → Made D.moves D.meaning (K.numbering server.old.kind) first past call result server.new.state server.new.disk }
-    ensures takes { Takes D.moves D.meaning (K.numbering server.old.kind) server.old.state server.old.disk call server.new.disk }
+    ensures extends { let k = K.numbering server.old.kind in
+        (first : D) (past : List Event) →
+        Reached D.moves D.meaning k first past server.old.state server.old.disk →
+        Made D.moves D.meaning k first past call result server.new.state server.new.disk }
+    ensures takes { let k = K.numbering server.old.kind in
+        Takes D.moves D.meaning k server.old.state server.old.disk call server.new.disk }
     ensures promise { EveryHistoryObeys D.moves D.meaning }
 {
     match call {
@@ -49,7 +53,10 @@ pub struct Turn {
 pub fn serve<D: Disk, K: Kind>(server: &mut Server<D, K>, turns: &mut [Turn])
     ensures kind { server.new.kind ≡ server.old.kind }
     ensures calls { map (λ turn. turn.call) turns.new ≡ map (λ turn. turn.call) turns.old }
-    ensures promise { (first : D) (past : List Event) → Reached D.moves D.meaning (K.numbering server.old.kind) first past server.old.state server.old.disk → Served D.moves D.meaning (K.numbering server.old.kind) first past turns.old turns.new server.new.state server.new.disk }
+    ensures promise { let k = K.numbering server.old.kind in
+        (first : D) (past : List Event) →
+        Reached D.moves D.meaning k first past server.old.state server.old.disk →
+        Served D.moves D.meaning k first past turns.old turns.new server.new.state server.new.disk }
 {
     // A loop, since each call changes the server: of what a closure changes a chain tells nothing.
     for turn in turns {

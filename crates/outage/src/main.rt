@@ -3,11 +3,12 @@
 
 ghost use Rattle.std.specs.Prelude.{◌≡◌, Some, None};
 ghost use Rattle.history.specs.declared.calls.Call.TheVariants.{Give, Cut};
+ghost use Rattle.outage.specs.Promise.{MadeOnTorn};
 ghost use Rattle.outage.specs.Texts.{turn_text, denied_text};
 
-use disk::TornDisk;
-use history::{Answer, Call, Turn, run};
-use kind::SerialKind;
+use disk::LatestWrite;
+use history::{Answer, Call, Turn, run_blank};
+use kind::{Kind, SerialKind};
 use record::{Identifier, Reading, SECTOR_BYTES, Sequence};
 use server::ServerFault;
 use std::{fmt, io};
@@ -78,6 +79,16 @@ impl fmt::Display for Denied {
     }
 }
 
+// Makes the calls of the turns on a server over a torn disk that begins without records.
+fn make_all<K: Kind + Drop>(kind: K, turns: &mut [Turn])
+    ensures { MadeOnTorn (K.numbering kind) turns.old turns.new }
+{
+    let mut memory = [0; SECTORS * SECTOR_BYTES];
+    let Ok(_server) = run_blank::<LatestWrite, K>(&mut memory, SECTORS, SUPPLY, kind, turns) else {
+        unreachable()
+    };
+}
+
 fn main(rt: HostRuntime) -> io::Result<()> {
     println!(rt;
         "Serial kind, blocks of {BLOCK_SIZE}; torn disk of {SECTORS} sectors; {SUPPLY} writes and flushes until the current fails."
@@ -97,14 +108,10 @@ fn main(rt: HostRuntime) -> io::Result<()> {
         give(2),
         give(5),
     ];
-    let mut memory = [0; SECTORS * SECTOR_BYTES];
-    let Ok(disk) = TornDisk::new(&mut memory, SECTORS, SUPPLY) else {
-        return println!(rt; "no disk");
-    };
     let Ok(kind) = SerialKind::new(BLOCK_SIZE) else {
         return println!(rt; "no kind");
     };
-    let _server = run(disk, kind, &mut turns);
+    make_all(kind, &mut turns);
     for turn in turns {
         println!(rt; "{}", Told(turn))?;
     }

@@ -1,25 +1,24 @@
 -- What a cut leaves of a whole reservation, wherever the current fails in it.
 use Rattle.std.proofs.Common.{◌≡◌, ℕ, zero, suc, ◌+◌, ◌*◌, ◌^◌, ◌<◌, ◌≤◌, ◌≢◌, ◌⊎◌, List, [], ◌∷◌, length, set, Some, None, Option, sym, refl, ap, ◌∙◌, subst, inl, inr, ⊎_elim, arith}
-use Rattle.std.proofs.lemmas.List.FromFn.{length-map-range_with_len}
 use Rattle.std.proofs.lemmas.Bool.{cases_eq}
 use Rattle.record.specs.Sector.{encoded}
 use Rattle.record.specs.declared.sector.Format.{Format}
 use Rattle.record.specs.declared.sector.Record.{Record}
 use Rattle.disk.specs.Meaning.{Meaning, Wrote, Flushed, Cut}
 use Rattle.disk.specs.declared.fault.Operation.TheVariants.{Write, Flush}
-use Rattle.ring.specs.Left.{Recovers, end_of, LawfulReservation, CutWithin, ReservedWhole, SevenCarries, Follows, stops, carries, OperationsCounted, TopsCounted, ReservationLaws}
+use Rattle.ring.specs.Left.{Recovers, end_of, LawfulReservation, CutWithin, ReservedWhole, OperationsCounted, TopsCounted, ReservationLaws}
 use Rattle.ring.specs.Operations.{Went, performed, outcome, writes_in, dark}
-use Rattle.ring.specs.Ring.{top, live, live_of, gap, beyond, carried, next, with_record, known, reserving, carrying, plan, Step}
+use Rattle.ring.specs.Ring.{top, live, live_of, gap, beyond, carried, next, with_record, reserving, carrying, plan, Step}
 use Rattle.ring.specs.declared.fault.Work.{Work}
 use Rattle.ring.specs.declared.fault.Work.TheVariants.{Carry, Reservation}
-use Rattle.ring.specs.declared.known.Known.{Known}
 use Rattle.ring.specs.declared.known.Live.{Live}
-use Rattle.ring.proofs.Carries.{carry_clear, carry_fewer, carry_writable}
+use Rattle.ring.proofs.Carries.{carry_clear}
 use Rattle.ring.proofs.Cuts.{cut_at_rest, cut_unflushed, recovers_blanked, top_blanked, live_blanked}
-use Rattle.ring.proofs.Knows.{left, carried_is, clear_from, known_written, left_seven, native_written}
+use Rattle.ring.proofs.Knows.{carried_is, clear_from}
+use Rattle.ring.proofs.Plans.{Path, path_begins, path_writable, path_top, path_carried, path_ends, recovers_written, some_steps, seven_carries}
 use Rattle.ring.proofs.Searches.{plan-ends, plan_carries}
 use Rattle.ring.proofs.Slots.{live_above, live_is}
-use Rattle.ring.proofs.Writes.{Clear, Writable, gap_lies, beyond_lies, top-written, live_written, live_other, free_written, sized_written}
+use Rattle.ring.proofs.Writes.{Clear, Writable, gap_lies, beyond_lies, top-written, live_written, live_other}
 
 -- the top record is at most so high, whatever a cut then leaves
 record Topped (f : Format) (after : Meaning) (most : ℕ) : Type 0 where
@@ -37,14 +36,6 @@ topped_up f after a b low t = grind arith
 module _ (f : Format) (reading : List (List ℕ)) (recovers : Recovers f reading) (s end : ℕ) (w : Writable f reading s end) (clear : Clear f reading s) where
   abbrev written : List (List ℕ)
   written = with_record f reading (next f reading s end)
-
-  pub recovers_written : Recovers f written
-  recovers_written =
-      record {
-        sized = sized_written f reading recovers.sized s end w;
-        free = free_written f reading recovers.sized s end w recovers.free clear;
-        native = native_written f reading recovers.sized s end w recovers.native;
-      }
 
   pub end_written : end_of f written s ≡ end
   end_written = ap (λ (l : Live). l.end.0) (live_written f reading recovers.sized s end w)
@@ -142,26 +133,9 @@ first_tops f m after recovers t last w clear kept work steps (suc (suc p)) more 
       done = went.2.2;
     })
 
--- sectors that are all kept
-abbrev at_rest : List (List ℕ) → Meaning
-at_rest reading = record { reading = reading; kept = reading; supply = 0; beyond = [] }
-
 went_none : (f : Format) (m after : Meaning) (p : ℕ) → Went m (performed f [] p) after → after ≡ m
 unfolding performed
 went_none f m after p went = went
-
-length_zero : (f : Format) (s end : ℕ) (reading : List (List ℕ)) → length (plan f 0 s end reading) ≡ 1
-unfolding plan
-length_zero f s end reading = refl
-
-some_by : (f : Format) (n s end : ℕ) (reading : List (List ℕ)) (x : Option Record) → carried f reading s ≡ x → 1 ≤ length (plan f n s end reading)
-some_by f n s end reading None e = let l = ap length (plan-ends f n s end reading e) in omega arith
-some_by f zero s end reading (Some q) e = let l = length_zero f s end reading in omega arith
-some_by f (suc n) s end reading (Some q) e = let l = ap length (plan_carries f n s end reading q e) in omega arith
-
--- at least the reservation is written
-some_steps : (f : Format) (n s end : ℕ) (reading : List (List ℕ)) → 1 ≤ length (plan f n s end reading)
-some_steps f n s end reading = some_by f n s end reading (carried f reading s) refl
 
 -- what is left after a carry, by what is read then
 rest_from :
@@ -180,11 +154,8 @@ carry_ends f reading recovers s q e w t =
 module _ (f : Format) (s end start : ℕ) (series : s < 8) (some : 1 ≤ end) (upper : end ≤ f.top.0 + 1) (numbers : start + 8 < 2 ^ 62) where
   -- a reservation under way between two of its writes, with at most n carries to come
   record State (n : ℕ) (m : Meaning) : Type 0 where
-    recovers : Recovers f m.reading
+    path : Path f s start n m.reading
     kept : m.kept ≡ m.reading
-    since : start ≤ top f m.reading
-    few : top f m.reading + left start s 0 (known f m.reading).lives ≤ start + 7
-    fuel : n + top f m.reading ≡ start + 7
 
   -- what a cut leaves, from there
   record Leaves (reading after : List (List ℕ)) : Type 0 where
@@ -205,25 +176,25 @@ module _ (f : Format) (s end start : ℕ) (series : s < 8) (some : 1 ≤ end) (u
   stays : (n : ℕ) (m : Meaning) (after : List (List ℕ)) → State n m → after ≡ m.reading → Leaves m.reading after
   stays n m after state same =
       subst (Leaves m.reading) (sym same)
-      (record { recovers = state.recovers; ends = λ t. inl refl; tops = omega arith; most = omega (arith, state.few) })
+      (record { recovers = state.path.recovers; ends = λ t. inl refl; tops = omega arith; most = omega (arith, state.path.few) })
 
   as_is : (n : ℕ) (m left : Meaning) (supply : ℕ) → State n m → Cut m supply left → Leaves m.reading left.reading
   as_is n m left supply state cut = stays n m left.reading state (cut_at_rest m left supply state.kept cut)
 
   last_writable : (n : ℕ) (m : Meaning) → State n m → Writable f m.reading s end
-  last_writable n m state = record { series = series; numbered = omega (arith, state.few); some = some; ends = upper }
+  last_writable n m state = record { series = series; numbered = omega (arith, state.path.few); some = some; ends = upper }
 
   -- the reservation itself
   written-leaves : (n : ℕ) (m : Meaning) (state : State n m) → carried f m.reading s ≡ None → Leaves m.reading (with_record f m.reading (next f m.reading s end))
   written-leaves n m state e =
       let w = last_writable n m state in
       let c = clear_from f m.reading s e in
-      let t = top-written f m.reading state.recovers.sized s end w in
+      let t = top-written f m.reading state.path.recovers.sized s end w in
       record {
-        recovers = recovers_written f m.reading state.recovers s end w c;
-        ends = ends-written f m.reading state.recovers s end w c;
+        recovers = recovers_written f m.reading state.path.recovers s end w c;
+        ends = ends-written f m.reading state.path.recovers s end w c;
         tops = omega arith;
-        most = omega (arith, state.few);
+        most = omega (arith, state.path.few);
       }
 
   blank_leaves : (n : ℕ) (m : Meaning) (state : State n m) (after : List (List ℕ)) → Recovers f after × (top f after ≡ top f m.reading) × ((t : ℕ) → end_of f after t ≡ end_of f m.reading t) → Leaves m.reading after
@@ -242,7 +213,7 @@ module _ (f : Format) (s end start : ℕ) (series : s < 8) (some : 1 ≤ end) (u
       (⊎_elim
       (λ same. subst (Leaves m.reading) (sym same) (written-leaves n m state e))
       (λ h. blank_leaves n m state left.reading h))
-      (left_unflushed f m.reading state.recovers s end (last_writable n m state) (clear_from f m.reading s e) m after left supply refl state.kept wrote cut)
+      (left_unflushed f m.reading state.path.recovers s end (last_writable n m state) (clear_from f m.reading s e) m after left supply refl state.kept wrote cut)
   reserving-leaves n m after left supply (suc (suc p)) state e is went cut =
       let m1 = went.0 in
       let wrote = went.1 in
@@ -257,30 +228,20 @@ module _ (f : Format) (s end start : ℕ) (series : s < 8) (some : 1 ≤ end) (u
   -- a carry that is done: one fewer to come, and all ends as before
   module _ (n : ℕ) (m m2 : Meaning) (state : State (suc n) m) (q : Record) (e : carried f m.reading s ≡ Some q) (reads : m2.reading ≡ with_record f m.reading (next f m.reading q.series q.end.0)) where
     cw : Writable f m.reading q.series q.end.0
-    cw = carry_writable f m.reading state.recovers.sized (known f m.reading).lives refl s start state.since state.few numbers q e
+    cw = path_writable f s start numbers (suc n) m.reading state.path q e
 
     carry_top : top f m2.reading ≡ top f m.reading + 1
-    carry_top = ap (top f) reads ∙ top-written f m.reading state.recovers.sized q.series q.end.0 cw
-
-    carry_lives : (known f m2.reading).lives ≡ set (known f m.reading).lives q.series (live_of (next f m.reading q.series q.end.0))
-    carry_lives =
-        ap (λ (xs : List (List ℕ)). (known f xs).lives) reads
-        ∙ sym (ap (λ (k : Known). k.lives) (known_written f m.reading state.recovers.sized q.series q.end.0 cw state.recovers.free))
+    carry_top = ap (top f) reads ∙ path_top f s start numbers (suc n) m.reading state.path q e
 
     carry_state : m2.kept ≡ m2.reading → State n m2
     carry_state kept' =
-        let one = carry_fewer f m.reading state.recovers.sized (known f m.reading).lives refl s start state.since state.few numbers q e in
-        let same = ap (left start s 0) carry_lives in
         record {
-          recovers = subst (Recovers f) (sym reads) (recovers_written f m.reading state.recovers q.series q.end.0 cw (carry_clear f m.reading s q e));
+          path = subst (Path f s start n) (sym reads) (path_carried f s start numbers (suc n) m.reading state.path q e n refl);
           kept = kept';
-          since = omega (arith, state.since, carry_top);
-          few = omega (arith, state.few, carry_top);
-          fuel = omega (arith, state.fuel, carry_top);
         }
 
     carry_end : (t : ℕ) → end_of f m2.reading t ≡ end_of f m.reading t
-    carry_end t = ap (λ (xs : List (List ℕ)). end_of f xs t) reads ∙ carry_ends f m.reading state.recovers s q e cw t
+    carry_end t = ap (λ (xs : List (List ℕ)). end_of f xs t) reads ∙ carry_ends f m.reading state.path.recovers s q e cw t
 
     carry_then : (after : List (List ℕ)) → Leaves m2.reading after → Leaves m.reading after
     carry_then after l =
@@ -307,28 +268,26 @@ module _ (f : Format) (s end start : ℕ) (series : s < 8) (some : 1 ≤ end) (u
       Wrote m (gap f m.reading) (encoded f.tag (next f m.reading q.series q.end.0)) m1 → Cut m1 supply left →
       Leaves m.reading left.reading
   carry_torn n m m1 left supply state q e wrote cut =
-      let w = carry_writable f m.reading state.recovers.sized (known f m.reading).lives refl s start state.since state.few numbers q e in
+      let w = path_writable f s start numbers (suc n) m.reading state.path q e in
       let c = carry_clear f m.reading s q e in
-      let t = top-written f m.reading state.recovers.sized q.series q.end.0 w in
+      let t = top-written f m.reading state.path.recovers.sized q.series q.end.0 w in
       ⊎_elim
       (stays (suc n) m left.reading state)
       (⊎_elim
       (λ same.
       subst (Leaves m.reading) (sym same)
       (record {
-        recovers = recovers_written f m.reading state.recovers q.series q.end.0 w c;
-        ends = λ u. inl (carry_ends f m.reading state.recovers s q e w u);
+        recovers = recovers_written f m.reading state.path.recovers q.series q.end.0 w c;
+        ends = λ u. inl (carry_ends f m.reading state.path.recovers s q e w u);
         tops = omega arith;
-        most = omega (arith, state.few);
+        most = omega (arith, state.path.few);
       }))
       (λ h. blank_leaves (suc n) m state left.reading h))
-      (left_unflushed f m.reading state.recovers q.series q.end.0 w c m m1 left supply refl state.kept wrote cut)
+      (left_unflushed f m.reading state.path.recovers q.series q.end.0 w c m m1 left supply refl state.kept wrote cut)
 
   -- no carry is to come where none is left
   none_left : (m : Meaning) → State 0 m → (q : Record) → carried f m.reading s ≡ Some q → ⊥
-  none_left m state q e =
-      let one = carry_fewer f m.reading state.recovers.sized (known f m.reading).lives refl s start state.since state.few numbers q e in
-      omega (arith, state.few, state.fuel)
+  none_left m state q e = path_ends f s start numbers 0 m.reading state.path q e refl
 
   leaves_by :
       (n : ℕ) (m after left : Meaning) (supply : ℕ) (x : Option Record) → carried f m.reading s ≡ x → State n m →
@@ -360,9 +319,9 @@ module _ (f : Format) (s end start : ℕ) (series : s < 8) (some : 1 ≤ end) (u
   tops_by n m after None e state went =
       let steps = plan-ends f n s end m.reading e in
       let w = last_writable n m state in
-      let t = top-written f m.reading state.recovers.sized s end w in
+      let t = top-written f m.reading state.path.recovers.sized s end w in
       subst (λ (l : List Step). Topped f after (top f m.reading + writes_in (performed f l m.supply))) (sym steps)
-      (first_tops f m after state.recovers s end w (clear_from f m.reading s e) state.kept (Reservation s) [] m.supply
+      (first_tops f m after state.path.recovers s end w (clear_from f m.reading s e) state.kept (Reservation s) [] m.supply
       (λ d.
       let last : after ≡ d.second = went_none f d.second after d.rest d.done in
       subst (λ (x : Meaning). Topped f x (top f m.reading + suc (writes_in (performed f [] d.rest)))) (sym last)
@@ -374,7 +333,7 @@ module _ (f : Format) (s end start : ℕ) (series : s < 8) (some : 1 ≤ end) (u
       let steps = plan_carries f n s end m.reading q e in
       let new : List (List ℕ) = with_record f m.reading (next f m.reading q.series q.end.0) in
       subst (λ (l : List Step). Topped f after (top f m.reading + writes_in (performed f l m.supply))) (sym steps)
-      (first_tops f m after state.recovers q.series q.end.0 (carry_writable f m.reading state.recovers.sized (known f m.reading).lives refl s start state.since state.few numbers q e) (carry_clear f m.reading s q e) state.kept (Carry q.series) (plan f n s end new) m.supply
+      (first_tops f m after state.path.recovers q.series q.end.0 (path_writable f s start numbers (suc n) m.reading state.path q e) (carry_clear f m.reading s q e) state.kept (Carry q.series) (plan f n s end new) m.supply
       (λ d.
       let reads : d.second.reading ≡ new = d.flushed.reads ∙ d.wrote.reads in
       let p : d.rest ≡ d.second.supply = omega (arith, d.spent, d.wrote.spends, d.flushed.spends) in
@@ -386,16 +345,6 @@ module _ (f : Format) (s end start : ℕ) (series : s < 8) (some : 1 ≤ end) (u
       (carry_state n m d.second state q e reads (d.flushed.keeps ∙ sym d.flushed.reads))
       (rest_from f s end n m after q d)))
       (subst (λ (l : List Step). Went m (performed f l m.supply) after) steps went))
-
-  -- the plan follows the rule
-  follows_by : (n : ℕ) (m : Meaning) (x : Option Record) → carried f m.reading s ≡ x → State n m → Follows f s end m.reading (plan f n s end m.reading)
-  follows_by n m None e state =
-      subst (Follows f s end m.reading) (sym (plan-ends f n s end m.reading e)) (stops e)
-  follows_by zero m (Some q) e state = absurd (none_left m state q e)
-  follows_by (suc n) m (Some q) e state =
-      let m2 : Meaning = at_rest (with_record f m.reading (next f m.reading q.series q.end.0)) in
-      subst (Follows f s end m.reading) (sym (plan_carries f n s end m.reading q e))
-      (carries q e (follows_by n m2 (carried f m2.reading s) refl (carry_state n m m2 state q e refl refl)))
 
   -- with supply enough all is written and kept
   reserved_by :
@@ -417,14 +366,14 @@ module _ (f : Format) (s end start : ℕ) (series : s < 8) (some : 1 ≤ end) (u
       ap (λ (y : Meaning). y.kept) last ∙ h.flushed.keeps ∙ sym h.flushed.reads ∙ sym (ap (λ (y : Meaning). y.reading) last) in
       let w = last_writable n m state in
       let c = clear_from f m.reading s e in
-      let t = top-written f m.reading state.recovers.sized s end w in (
+      let t = top-written f m.reading state.path.recovers.sized s end w in (
         subst (DoneWell m.reading) (sym reads)
             (record {
-              recovers = recovers_written f m.reading state.recovers s end w c;
-              own = end_written f m.reading state.recovers s end w c;
-              others = end_other f m.reading state.recovers s end w c;
+              recovers = recovers_written f m.reading state.path.recovers s end w c;
+              own = end_written f m.reading state.path.recovers s end w c;
+              others = end_other f m.reading state.path.recovers s end w c;
               tops = omega arith;
-              most = omega (arith, state.few);
+              most = omega (arith, state.path.few);
             }),
         kept',
       )))
@@ -451,13 +400,9 @@ module _ (f : Format) (s end start : ℕ) (series : s < 8) (some : 1 ≤ end) (u
 -- from the start
 abbrev begun : (f : Format) (s end : ℕ) (m : Meaning) (lawful : LawfulReservation f s end m) → State f s end (top f m.reading) lawful.series lawful.some lawful.ends lawful.numbers 7 m
 begun f s end m lawful =
-    let eight = length-map-range_with_len (live f m.reading) 0 8 in
     record {
-      recovers = lawful.recovers;
+      path = path_begins f s m.reading lawful.recovers lawful.series;
       kept = lawful.kept;
-      since = omega arith;
-      few = omega (arith, left_seven (top f m.reading) s (known f m.reading).lives lawful.series eight);
-      fuel = omega arith;
     }
 
 pub cut_within : CutWithin
@@ -482,21 +427,6 @@ tops_counted f s end m after lawful went =
     tops_by f s end (top f m.reading) lawful.series lawful.some lawful.ends lawful.numbers 7 m after (carried f m.reading s) refl
     (begun f s end m lawful) went in
     (t.now, t.cut)
-
-length_by : (f : Format) (n s end : ℕ) (reading : List (List ℕ)) (x : Option Record) → carried f reading s ≡ x → length (plan f n s end reading) ≤ suc n
-length_by f n s end reading None e = let l = ap length (plan-ends f n s end reading e) in omega arith
-length_by f zero s end reading (Some q) e = let l = length_zero f s end reading in omega arith
-length_by f (suc n) s end reading (Some q) e =
-    let l = ap length (plan_carries f n s end reading q e) in
-    let after = with_record f reading (next f reading q.series q.end.0) in
-    let rest = length_by f n s end after (carried f after s) refl in
-    omega arith
-
-pub seven_carries : SevenCarries
-seven_carries f s end m lawful = (
-  follows_by f s end (top f m.reading) lawful.series lawful.some lawful.ends lawful.numbers 7 m (carried f m.reading s) refl (begun f s end m lawful),
-  length_by f 7 s end m.reading (carried f m.reading s) refl,
-)
 
 -- two operations for each write
 pub operations_counted : OperationsCounted

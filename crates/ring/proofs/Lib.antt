@@ -1,10 +1,13 @@
+pub mod AnyRing
 pub mod Carries
 pub mod Chains
 pub mod Cuts
 pub mod Determined
+pub mod Ends
 pub mod Knows
 pub mod LastChains
 pub mod Leaves
+pub mod Plans
 pub mod Recovers
 pub mod Reserves
 pub mod Scans

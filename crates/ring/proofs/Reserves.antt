@@ -10,7 +10,7 @@ use Rattle.disk.specs.declared.fault.DiskFault.{DiskFault}
 use Rattle.disk.specs.declared.fault.Operation.TheVariants.{Write, Flush}
 use Rattle.ring.specs.Operations.{Op, Went, performed, outcome, Writes}
 use Rattle.ring.specs.Ring.{top, gap, next, known_gap, reserving, Agrees, Step}
-use Rattle.ring.specs.Search.{Cleared, Begun, Ended, MaySearch, MayReserve, refusal, admitted}
+use Rattle.ring.specs.Search.{reservation, Cleared, Begun, Ended, MaySearch, MayReserve, refusal, admitted}
 use Rattle.ring.specs.Token.{confirmed}
 use Rattle.ring.specs.Faults.{with_work}
 use Rattle.ring.specs.declared.fault.Interrupted.{Interrupted as Stop}
@@ -44,7 +44,7 @@ module _ (s : ℕ) (end : Rank) (whole : Meaning) (r : Ring) (m : Meaning) (clea
   new = next r.format m.reading s end.0
 
   abbrev value : Reserved
-  value = record { series = s; end = end }
+  value = reservation r.format whole.reading s end
 
   abbrev last : Step
   last = reserving r.format m.reading s end.0
@@ -137,9 +137,9 @@ module _ (f : Format) (s : ℕ) (end : Rank) (whole : Meaning) (r : Ring) (m : M
         (subst (λ (y : Meaning). Ended r.format s end whole (Err (Interrupted (record { work = Reservation s; fault = fault }))) r' y) (sym same)
         (ended_at_flush s end whole r m own series own_numbers some own_ends r' m' writes fault e))
 
-    pub flush_done : (m'' : Meaning) → Flushed m' m'' → Ended f s end whole (Ok (record { series = s; end = end })) r' m''
+    pub flush_done : (m'' : Meaning) → Flushed m' m'' → Ended f s end whole (Ok (reservation f whole.reading s end)) r' m''
     flush_done m'' flushed =
-        subst (λ (y : Format). Ended y s end whole (Ok (record { series = s; end = end })) r' m'') cleared.format
+        subst (λ (y : Format). Ended y s end whole (Ok (reservation y whole.reading s end)) r' m'') cleared.format
         (ended_well s end whole r m own series own_numbers some own_ends r' m' writes m'' flushed)
 
 -- what `map_err` passed on, or made its denial of
@@ -161,7 +161,9 @@ module _ (r : Ring) (s : ℕ) (end : Rank) (whole : Meaning) (may : MayReserve r
   sector_is : w.sector ≡ known_gap begun.ring
   sector_is = ap (λ (x : Written). x.sector) begun.token
 
-  confirmed_well : (answer : Result (Unit {0}) DiskFault) (reserved : Reserved) → Ok reserved ≡ confirmed w answer → reserved ≡ record { series = w.claim.series; end = w.claim.end }
+  confirmed_well :
+      (answer : Result (Unit {0}) DiskFault) (reserved : Reserved) → Ok reserved ≡ confirmed w answer →
+      reserved ≡ record { series = w.claim.series; start = w.start; end = w.claim.end }
   confirmed_well answer reserved e = grind arith
 
   confirmed_ill : (answer : Result (Unit {0}) DiskFault) (u : Unconfirmed) → Err u ≡ confirmed w answer → (answer ≡ Err u.fault) × (u.written ≡ w)
@@ -171,14 +173,14 @@ module _ (r : Ring) (s : ℕ) (end : Rank) (whole : Meaning) (may : MayReserve r
       (reserved : Reserved) (m'' : Meaning) → Ok reserved ≡ confirmed w (answer_of Flush m' w.sector) → Flushed m' m'' →
       Ended r.format s end whole (Ok reserved) r' m''
   confirm_done reserved m'' e flushed =
-      let is : reserved ≡ record { series = s; end = end } =
+      let is : reserved ≡ reservation r.format whole.reading s end =
       confirmed_well (answer_of Flush m' w.sector) reserved e
-      ∙ ap (λ (x : Written). record_reserved x.claim.series x.claim.end) begun.token in
+      ∙ ap (λ (x : Written). reserved_of x.claim.series x.start x.claim.end) begun.token in
       subst (λ (x : Reserved). Ended r.format s end whole (Ok x) r' m'') (sym is)
       (flush_done r.format s end whole begun.ring begun.meaning begun.cleared may.series may.numbers may.some may.ends r' m' begun.writes m'' flushed)
     where
-      record_reserved : ℕ → Rank → Reserved
-      record_reserved x y = record { series = x; end = y }
+      reserved_of : ℕ → Rank → Rank → Reserved
+      reserved_of x y z = record { series = x; start = y; end = z }
 
   pub confirm_denied :
       (u : Unconfirmed) (x : Stop) (m'' : Meaning) → Err u ≡ confirmed w (answer_of Flush m' w.sector) → m'' ≡ m' →

@@ -1,9 +1,8 @@
 -- What a cut leaves of a ring, in terms of what its sectors read.
-use Rattle.std.specs.Prelude.{◌≡◌, ℕ, ◌+◌, ◌*◌, ◌^◌, ◌<◌, ◌≤◌, min, false, ◌≢◌, ◌⊎◌, List, [], ◌∷◌, length, Some, None, Ok, Err}
-use Rattle.record.specs.Sector.{sound}
+use Rattle.std.specs.Prelude.{◌≡◌, ℕ, ◌+◌, ◌*◌, ◌^◌, ◌<◌, ◌≤◌, min, ◌≢◌, ◌⊎◌, List, [], ◌∷◌, length, Some, None, Ok, Err}
 use Rattle.record.specs.declared.sector.Format.{Format}
 use Rattle.record.specs.declared.sector.Record.{Record}
-use Rattle.disk.specs.Meaning.{Meaning, at, Cut}
+use Rattle.disk.specs.Meaning.{Meaning, Cut}
 use Rattle.ring.specs.Operations.{Went, performed, outcome, writes_in}
 use Rattle.ring.specs.Ring.{top, live, carried, with_record, carrying, reserving, plan, Sized, Free, Native, Step}
 use Rattle.ring.specs.declared.fault.RingFault.{RingFault}
@@ -34,6 +33,13 @@ pub record ReservedUpTo (f : Format) (s end : ℕ) (before after : List (List �
   pub others : (t : ℕ) → t ≢ s → end_of f after t ≡ end_of f before t
   pub tops : top f before < top f after
   pub most : top f after ≤ top f before + 8
+
+-- sectors with room for a reservation: they recover, the series is one of eight, and there are eight more
+-- sequence numbers
+pub record HasRoom (f : Format) (s : ℕ) (reading : List (List ℕ)) : Type 0 where
+  pub recovers : Recovers f reading
+  pub series : s < 8
+  pub numbers : top f reading + 8 < 2 ^ 62
 
 -- a reservation that may be made on sectors that recover, all of them kept
 pub record LawfulReservation (f : Format) (s end : ℕ) (m : Meaning) : Type 0 where
@@ -74,11 +80,11 @@ pub data Follows (f : Format) (s end : ℕ) : List (List ℕ) → List Step → 
       Follows f s end (with_record f reading (carrying f reading q).entry) steps →
       Follows f s end reading (carrying f reading q ∷ steps)
 
--- the plan is what the rule asks for, and has at most seven carries
+-- the plan is what the rule asks for, kept or not, and has at most seven carries
 abbrev pub SevenCarries : Type 0
 SevenCarries =
-    (f : Format) (s end : ℕ) (m : Meaning) → LawfulReservation f s end m →
-    Follows f s end m.reading (plan f 7 s end m.reading) × (length (plan f 7 s end m.reading) ≤ 8)
+    (f : Format) (s end : ℕ) (reading : List (List ℕ)) → HasRoom f s reading →
+    Follows f s end reading (plan f 7 s end reading) × (length (plan f 7 s end reading) ≤ 8)
 
 -- with k carries a reservation takes 2 × (k + 1) writes and flushes; with that supply it succeeds, and with less it is stopped
 abbrev pub OperationsCounted : Type 0

@@ -5,7 +5,7 @@ use Rattle.record.specs.declared.sector.Format.{Format}
 use Rattle.disk.specs.Meaning.{Meaning}
 use Rattle.disk.specs.Moves.{Moves}
 use Rattle.ring.specs.Operations.{Went, performed, tried, outcome, Writes, Chain}
-use Rattle.ring.specs.Ring.{top, carried, plan, reserving, known_gap, Agrees, Step}
+use Rattle.ring.specs.Ring.{top, live, carried, plan, reserving, known_gap, Agrees, Step}
 use Rattle.ring.specs.declared.fault.RingFault.{RingFault}
 use Rattle.ring.specs.declared.fault.RingFault.TheVariants.{Series, End, Exhausted}
 use Rattle.ring.specs.declared.ring.Ring.{Ring}
@@ -55,11 +55,20 @@ pub record MaySearch (r : Ring) (m : Meaning) (s : ℕ) : Type 0 where
   pub series : s < 8
   pub numbers : top r.format m.reading + 8 < 2 ^ 62
 
+-- a reservation: the ranks of a series from its end as the sectors read up to a new end
+abbrev pub reservation : Format → List (List ℕ) → ℕ → Rank → Reserved
+reservation f reading s end = record { series = s; start = (live f reading s).end; end = end }
+
+-- and its record in a sector
+abbrev pub written : Format → List (List ℕ) → ℕ → Rank → ℕ → Written
+written f reading s end sector =
+    record { claim = record { series = s; end = end }; start = (live f reading s).end; sector = sector }
+
 -- a reservation that is done, or that darkness stopped: it answers and does what its plan asks for
 pub record Ended (f : Format) (s : ℕ) (end : Rank) (whole : Meaning) (answer : Result Reserved RingFault) (r : Ring) (m : Meaning) : Type 0 where
   pub agrees : Agrees r m
   pub format : r.format ≡ f
-  pub answers : outcome (record { series = s; end = end }) (plan f 7 s end.0 whole.reading) whole.supply ≡ answer
+  pub answers : outcome (reservation f whole.reading s end) (plan f 7 s end.0 whole.reading) whole.supply ≡ answer
   pub goes : Went whole (performed f (plan f 7 s end.0 whole.reading) whole.supply) m
 
 -- a reservation that is written: the search has ended, and the record is in the gap
@@ -68,16 +77,16 @@ pub record Begun (f : Format) (s : ℕ) (end : Rank) (whole : Meaning) (w : Writ
   pub meaning : Meaning
   pub cleared : Cleared f s whole ring meaning
   pub writes : Writes ring meaning s end r m
-  pub token : w ≡ record { claim = record { series = s; end = end }; sector = known_gap ring }
+  pub token : w ≡ written f whole.reading s end (known_gap ring)
 
--- what a reservation is refused for before anything is touched: the series, the end, or that sequence numbers run short
+-- what a reservation is refused for before anything is touched: the end, the series, or that sequence numbers run short
 abbrev pub refusal : Format → ℕ → ℕ → Rank → Option RingFault
 refusal f top s end =
-    cond (nat_lt s 8)
-    (cond (nat_lt 0 end.0 && nat_le end.0 (f.top.0 + 1))
+    cond (nat_lt 0 end.0 && nat_le end.0 (f.top.0 + 1))
+    (cond (nat_lt s 8)
     (cond (nat_le (top + 8) (2 ^ 62 - 1)) None (Some Exhausted))
-    (Some (End end)))
-    (Some (Series s))
+    (Some (Series s)))
+    (Some (End end))
 
 -- what is asked for, unless it is refused
 abbrev pub admitted : {A : Type 0} → A → Option RingFault → Result A RingFault

@@ -1,8 +1,9 @@
--- A reservation that was written, by what its flush answers, and what can be drawn from one that is flushed.
-use Rattle.std.specs.Prelude.{◌+◌, max, cond, Some, None, Ok, Err, Option, Result, nat_lt}
+-- A reservation that was written, by what its flush answers, and the blocks that ranks are drawn from once it is flushed.
+use Rattle.std.specs.Prelude.{◌≡◌, ℕ, ◌+◌, ◌<◌, ◌≤◌, max, cond, List, map, Some, None, Ok, Err, Option, Result, ◌==◌, nat_lt, slice_index_or, slice_set}
 use Rattle.record.specs.declared.numbers.Rank.{Rank}
 use Rattle.disk.specs.declared.fault.DiskFault.{DiskFault}
 use Rattle.ring.specs.declared.token.Block.{Block}
+use Rattle.ring.specs.declared.token.Blocks.{Blocks}
 use Rattle.ring.specs.declared.token.Drawn.{Drawn}
 use Rattle.ring.specs.declared.token.Reserved.{Reserved}
 use Rattle.ring.specs.declared.token.Unconfirmed.{Unconfirmed}
@@ -10,25 +11,68 @@ use Rattle.ring.specs.declared.token.Written.{Written}
 
 -- it is confirmed, or comes back with the fault
 abbrev pub confirmed : Written → Result (Unit {0}) DiskFault → Result Reserved Unconfirmed
-confirmed w (Ok done) = Ok (record { series = w.claim.series; end = w.claim.end })
+confirmed w (Ok done) = Ok (record { series = w.claim.series; start = w.start; end = w.claim.end })
 confirmed w (Err fault) = Err (record { written = w; fault = fault })
 
 -- a block that gives no rank
 abbrev pub empty_block : Rank → Block
 empty_block end = record { next = end; end = end }
 
--- a block with the ranks of a reservation
-abbrev pub filled : Reserved → Block → Block
-filled r b = record { next = b.next; end = r.end }
+-- blocks that give no rank, by the ends of their series
+abbrev pub empty_blocks : List Rank → Blocks
+empty_blocks ends = record { 0 = map empty_block ends }
 
--- the rank that is drawn: the next one, but none below a least one
-abbrev pub rank_drawn : Rank → Block → Rank
-rank_drawn least b = record { 0 = max b.next.0 least.0 }
+-- the block of a series, an empty one past the last
+abbrev pub block_in : Blocks → ℕ → Block
+block_in blocks s = slice_index_or blocks.0 s (empty_block (record { 0 = 0 }))
 
--- if it is below the end
-abbrev pub drawn : Rank → Block → Option Drawn
-drawn least b = cond (nat_lt (max b.next.0 least.0) b.end.0) (Some (record { rank = rank_drawn least b })) None
+-- the blocks with another one of a series
+abbrev pub with_block : Blocks → ℕ → Block → Blocks
+with_block blocks s block = record { 0 = slice_set blocks.0 s block }
 
--- the block after it: it goes on above that rank
-abbrev pub after_draw : Rank → Block → Block
-after_draw least b = record { next = record { 0 = max b.next.0 least.0 + 1 }; end = b.end }
+-- the ends of all blocks
+abbrev pub block_ends : Blocks → List Rank
+block_ends blocks = map (λ (block : Block). block.end) blocks.0
+
+-- a block with the ranks from a start up to an end: it goes on where it ends at the start, and begins there otherwise, but never
+-- below its next rank
+abbrev pub extended : Rank → Rank → Block → Block
+extended start end b =
+    record {
+      next = cond (b.end.0 == start.0) b.next (record { 0 = max b.next.0 start.0 });
+      end = end;
+    }
+
+-- the blocks with the ranks of a reservation, which its own series takes over
+abbrev pub filled : Reserved → Blocks → Blocks
+filled r blocks = with_block blocks r.series (extended r.start r.end (block_in blocks r.series))
+
+-- the rank that a block gives: the next one, but none below a least one, if that is below its end
+abbrev pub rank_of : Rank → Block → Option Rank
+rank_of least b = cond (nat_lt (max b.next.0 least.0) b.end.0) (Some (record { 0 = max b.next.0 least.0 })) None
+
+-- what is drawn of a series
+abbrev pub drawn_as : ℕ → Option Rank → Option Drawn
+drawn_as s None = None
+drawn_as s (Some rank) = Some (record { series = s; rank = rank })
+
+abbrev pub drawn : ℕ → Rank → Blocks → Option Drawn
+drawn s least blocks = drawn_as s (rank_of least (block_in blocks s))
+
+-- a block that gave a rank, if it gave one: it goes on above that
+abbrev pub gone_on : Option Rank → Block → Block
+gone_on None b = b
+gone_on (Some rank) b = record { next = record { 0 = rank.0 + 1 }; end = b.end }
+
+-- the blocks after a draw
+abbrev pub left_by : Option Drawn → Blocks → Blocks
+left_by None blocks = blocks
+left_by (Some d) blocks = with_block blocks d.series (gone_on (Some d.rank) (block_in blocks d.series))
+
+-- a rank that may still come out of the block of a series
+abbrev pub Holds : Blocks → ℕ → ℕ → Type 0
+Holds blocks s rank = ((block_in blocks s).next.0 ≤ rank) × (rank < (block_in blocks s).end.0)
+
+-- a rank of a series that a reservation newly reserves
+abbrev pub Covers : Reserved → ℕ → ℕ → Type 0
+Covers r s rank = (s ≡ r.series) × (r.start.0 ≤ rank) × (rank < r.end.0)

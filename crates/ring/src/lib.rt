@@ -9,4 +9,4 @@ mod token;
 pub use fault::{Interrupted, Particulars, RingFault, Work};
 pub use known::{Known, Live};
 pub use ring::{Ring, most_operations};
-pub use token::{Block, Drawn, Reserved, Unconfirmed, Written};
+pub use token::{Blocks, Drawn, Reserved, Unconfirmed, Written};

@@ -1,11 +1,12 @@
 // The ring over any disk.
-ghost use Rattle.std.specs.Prelude.{◌≡◌, ℕ, [], ◌∷◌, ◌+◌, ◌^◌, ◌<◌, IfOk, IfErr, Some, None, Ok, Err, MatchResult, map};
-ghost use Rattle.ring.specs.Token.{empty_block};
+ghost use Rattle.std.specs.Prelude.{◌≡◌, ℕ, [], ◌∷◌, ◌+◌, ◌^◌, ◌<◌, IfOk, IfErr, Some, None, Ok, Err, MatchResult, slice_set};
+ghost use Rattle.ring.specs.Token.{empty_blocks};
 ghost use Rattle.ring.specs.Left.{end_of, ReservationLaws, TopsCounted};
 ghost use Rattle.ring.specs.Faults.{with_work};
 ghost use Rattle.disk.specs.Meaning.{Meaning, at, count, answer_of, Flushed};
 ghost use Rattle.disk.specs.declared.fault.Operation.TheVariants.{Write};
 ghost use Rattle.ring.specs.Operations.{Writes, Denied, Chain, write_and_flush};
+ghost use Rattle.ring.specs.Runs.{looked, known_carrying, Appends, RunsUnlessRefused, RunsShort, RunsClear, RunsStopped, RunsWritten};
 ghost use Rattle.ring.specs.Search.{GoesOn, Tried, MaySearch, Cleared, Stopped, MayReserve, Begun, Ended, refusal, admitted};
 ghost use Rattle.ring.specs.declared.fault.Work.TheVariants.{Carry};
 ghost use Rattle.record.specs.Sector.{content, encoded};
@@ -13,7 +14,7 @@ ghost use Rattle.ring.specs.Ring.{named, known_gap, next_of, reserving, beyond, 
 
 use crate::fault::{Interrupted, RingFault, Work, during};
 use crate::known::{Claim, Known};
-use crate::token::{Block, Reserved, Unconfirmed, Written};
+use crate::token::{Blocks, Reserved, Unconfirmed, Written};
 use disk::{Disk, DiskFault, LEAST_SECTORS, MOST_SECTORS};
 use record::{Content, Format, LAST_SEQUENCE, Rank, Record, Sequence, classify, encode};
 
@@ -103,15 +104,16 @@ impl Ring {
     }
 
     // The blocks of all eight series as a server wakes with them: they are empty.
-    pub fn blocks(&self) -> [Block; 8]
-        ensures { result ≡ map empty_block (known_ends self.now.known) }
+    pub fn blocks(&self) -> Blocks
+        ensures { result ≡ empty_blocks (known_ends self.now.known) }
     {
-        self.known.lives.map(|live| Block::empty(live.end))
+        Blocks::empty(self.known)
     }
 
     // What the sector after the gap holds.
     pub(crate) fn look<D: Disk>(&self, disk: &D) -> Result<Content, DiskFault>
-        ensures { Agrees self.now (D.meaning disk.now) → top self.now.format (D.meaning disk.now).reading < 2 ^ 62 → result ≡ Ok (content self.now.format (beyond self.now.format (D.meaning disk.now).reading) (at (D.meaning disk.now).reading (beyond self.now.format (D.meaning disk.now).reading))) }
+        ensures looks { result ≡ looked self.now (D.meaning disk.now).reading }
+        ensures agrees { Agrees self.now (D.meaning disk.now) → top self.now.format (D.meaning disk.now).reading < 2 ^ 62 → result ≡ Ok (content self.now.format (beyond self.now.format (D.meaning disk.now).reading) (at (D.meaning disk.now).reading (beyond self.now.format (D.meaning disk.now).reading))) }
     {
         let sector = sector_of(self.known.top.0.saturating_add(2), self.format.sectors);
         let bytes = disk.read(sector)?;
@@ -149,6 +151,10 @@ impl Ring {
         ensures work { IfErr result (λ stopped. stopped.work ≡ Carry entry.series) }
         ensures effect { MatchResult result (λ _. (between : Meaning) × Writes self.old (D.meaning disk.old) entry.series entry.end self.new between × Flushed between (D.meaning disk.new)) (λ stopped. Denied self.old (D.meaning disk.old) entry.series entry.end stopped.fault self.new (D.meaning disk.new)) }
         ensures moves { Chain D.moves disk.old (write_and_flush (known_gap self.old) (encoded self.old.format.tag (next_of self.old entry.series entry.end)) (answer_of Write (D.meaning disk.old) (known_gap self.old))) disk.new }
+        ensures appends { let step = known_carrying self.old entry in
+            MatchResult result
+            (λ _. Appends D.moves D.meaning self.old disk.old step (Ok tt) self.new disk.new)
+            (λ x. Appends D.moves D.meaning self.old disk.old step (Err x.fault) self.new disk.new) }
     {
         let claim = Claim::from(entry);
         let work = Work::Carry(claim.series);
@@ -163,6 +169,10 @@ impl Ring {
         ensures gap { IfOk result (λ gap. gap ≡ known_gap self.new) }
         ensures search { MaySearch self.old (D.meaning disk.old) series → MatchResult result (λ _. Cleared self.old.format series (D.meaning disk.old) self.new (D.meaning disk.new)) (λ fault. Stopped self.old.format series (D.meaning disk.old) fault self.new (D.meaning disk.new)) }
         ensures moves { MaySearch self.old (D.meaning disk.old) series → MatchResult result (λ _. GoesOn D.moves D.meaning self.old.format series disk.old (λ end. reserving self.old.format (D.meaning disk.new).reading series end ∷ []) disk.new) (λ _. (end : ℕ) → Tried D.moves D.meaning self.old.format series disk.old end disk.new) }
+        ensures runs { let start = self.old.known.top.0 in
+            MatchResult result
+            (λ _. RunsClear D.moves D.meaning series start self.old disk.old self.new disk.new)
+            (λ x. RunsShort D.moves D.meaning series start self.old disk.old x self.new disk.new) }
     {
         let start = self.known.top;
         let gap = loop {
@@ -180,21 +190,28 @@ impl Ring {
         requires { self.old.known.top.0 + 8 < 2 ^ 62 }
         ensures begins { MayReserve self.old (D.meaning disk.old) claim.series claim.end → MatchResult result (λ written. Begun self.old.format claim.series claim.end (D.meaning disk.old) written self.new (D.meaning disk.new)) (λ fault. Ended self.old.format claim.series claim.end (D.meaning disk.old) (Err fault) self.new (D.meaning disk.new)) }
         ensures moves { MayReserve self.old (D.meaning disk.old) claim.series claim.end → MatchResult result (λ written. (after : D) → D.moves.flushes disk.new written.sector after → Tried D.moves D.meaning self.old.format claim.series disk.old claim.end.0 after) (λ _. Tried D.moves D.meaning self.old.format claim.series disk.old claim.end.0 disk.new) }
+        ensures claims { IfOk result (λ w. w.claim ≡ claim) }
+        ensures starts { IfOk result (λ w. w.start ≡ known_end self.old.known claim.series) }
+        ensures runs { let start = self.old.known.top.0 in
+            MatchResult result
+            (λ w. RunsWritten D.moves D.meaning claim start self.old disk.old w.sector self.new disk.new)
+            (λ x. RunsStopped D.moves D.meaning claim start self.old disk.old x self.new disk.new) }
     {
+        let start = self.known.end(claim.series);
         let gap = self.clear_the_way(disk, claim.series)?;
         self.write_record(disk, gap, Work::Reservation(claim.series), claim)?;
-        Ok(Written::new(claim, gap))
+        Ok(Written::new(claim, start, gap))
     }
 
     // What a reservation claims, if it may be made at all.
     fn admit(&self, series: u8, end: Rank) -> Result<Claim, RingFault>
         ensures { result ≡ admitted (record { series = series; end = end }) (refusal self.now.format self.now.known.top.0 series end) }
     {
-        if series >= 8 {
-            return Err(RingFault::Series(series));
-        }
         if end.0 == 0 || end.0 - 1 > self.format.top.0 {
             return Err(RingFault::End(end));
+        }
+        if series >= 8 {
+            return Err(RingFault::Series(series));
         }
         if self.known.top.0 > LAST_SEQUENCE - 8 {
             return Err(RingFault::Exhausted);
@@ -213,6 +230,12 @@ impl Ring {
         ensures reserves { Agrees self.old (D.meaning disk.old) → refusal self.old.format self.old.known.top.0 series end ≡ None → Ended self.old.format series end (D.meaning disk.old) result self.new (D.meaning disk.new) }
         ensures untouched { (fault : RingFault) → refusal self.old.format self.old.known.top.0 series end ≡ Some fault → disk.new ≡ disk.old }
         ensures moves { Agrees self.old (D.meaning disk.old) → refusal self.old.format self.old.known.top.0 series end ≡ None → Tried D.moves D.meaning self.old.format series disk.old end.0 disk.new }
+        ensures ends { Agrees self.old (D.meaning disk.old) →
+            IfOk result (λ _. known_ends self.new.known ≡ slice_set (known_ends self.old.known) series end) }
+        ensures runs { let refused = refusal self.old.format self.old.known.top.0 series end in
+            let start = known_end self.old.known series in
+            let value : Reserved = record { series = series; start = start; end = end } in
+            RunsUnlessRefused D.moves D.meaning refused value self.old disk.old result self.new disk.new }
     {
         let claim = self.admit(series, end)?;
         let written = self.begin(disk, claim)?;

@@ -1,19 +1,21 @@
 // A reservation between its write and its flush.
-ghost use Rattle.std.specs.Prelude.{◌≡◌, MatchResult, is_some, if◌then◌else◌};
+ghost use Rattle.std.specs.Prelude.{◌≡◌, ℕ, ◌<◌, ◌⊎◌, MatchResult, IfSome};
 ghost use Rattle.disk.specs.Meaning.{answer_of, Flushed};
 ghost use Rattle.disk.specs.declared.fault.Operation.TheVariants.{Flush};
-ghost use Rattle.ring.specs.Token.{confirmed, empty_block, filled, drawn, after_draw};
+ghost use Rattle.ring.specs.Ring.{known_ends};
+ghost use Rattle.ring.specs.Token.{confirmed, empty_block, empty_blocks, block_in, extended, filled, rank_of, drawn, gone_on, left_by, Holds, Covers};
 ghost use Rattle.ring.specs.declared.fault.Work.TheVariants.{Reservation};
 
 use crate::fault::{Interrupted, Work};
-use crate::known::Claim;
+use crate::known::{Claim, Known};
 use disk::{Disk, DiskFault};
 use record::Rank;
 
-// A reservation that is written and not yet flushed. No rank can be drawn from it, and it cannot be let go: it is confirmed
-// by a flush, or given up by name.
+// A reservation that is written and not yet flushed: what it claims, the first rank that is newly reserved, and the sector of
+// its record. No rank can be drawn from it, and it cannot be let go: it is confirmed by a flush, or given up by name.
 pub struct Written {
     claim: Claim,
+    start: Rank,
     sector: usize,
 }
 
@@ -23,33 +25,44 @@ pub struct Unconfirmed {
     fault: DiskFault,
 }
 
-// A reservation that is flushed: the ranks of the series below the end are reserved. Only `confirm` makes one.
+// A reservation that is flushed: the ranks of the series from the start up to below the end are newly reserved. Only `confirm`
+// makes one. It is used up by filling blocks with it.
 #[derive(PartialEq, Eq, Debug)]
 pub struct Reserved {
     series: u8,
+    start: Rank,
     end: Rank,
 }
 
-// The block in hand of a series: the next rank that it gives, and the first that is not reserved. It can neither be copied nor
-// cloned, so that it gives no rank twice.
+// The block in hand of a series: the next rank that it gives, and the first that it does not.
 #[derive(Drop)]
-pub struct Block {
+struct Block {
     next: Rank,
     end: Rank,
 }
 
-// A rank that was drawn from a block. Only a block makes one.
+// The blocks in hand of all eight series, in their order. They can neither be copied nor cloned, and a reservation fills the
+// block of its own series, so that no rank comes out of two blocks.
+#[derive(Drop)]
+pub struct Blocks([Block; 8]);
+
+// A rank that was drawn, with its series. Only blocks make one.
 #[derive(Drop)]
 pub struct Drawn {
+    series: u8,
     rank: Rank,
 }
 
 impl Written {
     // A reservation whose record is in its sector.
-    pub(crate) fn new(claim: Claim, sector: usize) -> Written
-        ensures { result ≡ record { claim = claim; sector = sector } }
+    pub(crate) fn new(claim: Claim, start: Rank, sector: usize) -> Written
+        ensures { result ≡ record { claim = claim; start = start; sector = sector } }
     {
-        Written { claim, sector }
+        Written {
+            claim,
+            start,
+            sector,
+        }
     }
 
     // Flushes the reservation. Where the disk denies that, the reservation comes back, to be given up.
@@ -61,9 +74,13 @@ impl Written {
         // Each arm spends the token: it is taken apart, or handed on.
         match disk.flush(self.sector) {
             Ok(()) => {
-                let Written { claim, sector: _ } = self;
+                let Written {
+                    claim,
+                    start,
+                    sector: _,
+                } = self;
                 let Claim { series, end } = claim;
-                Ok(Reserved { series, end })
+                Ok(Reserved { series, start, end })
             }
             Err(fault) => Err(Unconfirmed {
                 written: self,
@@ -79,7 +96,11 @@ impl Unconfirmed {
         ensures { result ≡ record { work = Reservation self.written.claim.series; fault = self.fault } }
     {
         let Unconfirmed { written, fault } = self;
-        let Written { claim, sector: _ } = written;
+        let Written {
+            claim,
+            start: _,
+            sector: _,
+        } = written;
         Interrupted {
             work: Work::Reservation(claim.series),
             fault,
@@ -94,50 +115,30 @@ impl Reserved {
     {
         self.series
     }
-
-    // Lets the reservation go, and tells its series: the ranks stay reserved, and none is drawn from it.
-    pub fn let_go(self) -> u8
-        ensures { result ≡ self.series }
-    {
-        let Reserved { series, end: _ } = self;
-        series
-    }
 }
 
 impl Block {
     // A block that gives no rank.
-    pub(crate) fn empty(end: Rank) -> Block
+    fn empty(end: Rank) -> Block
         ensures { result ≡ empty_block end }
     {
         Block { next: end, end }
     }
 
-    // The next rank that it gives, if that is below its end.
-    pub fn next(&self) -> Rank
-        ensures { result ≡ self.now.next }
+    // Takes over the ranks from a start up to an end: it goes on where it ends at the start, and begins there otherwise.
+    fn extend(&mut self, start: Rank, end: Rank)
+        ensures { self.new ≡ extended start end self.old }
     {
-        self.next
-    }
-
-    // The first rank that is not reserved.
-    pub fn end(&self) -> Rank
-        ensures { result ≡ self.now.end }
-    {
-        self.end
-    }
-
-    // Takes over the ranks that were reserved.
-    pub fn fill(&mut self, reserved: Reserved)
-        ensures { self.new ≡ filled reserved self.old }
-    {
-        let Reserved { series: _, end } = reserved;
+        if self.end != start {
+            self.next = self.next.max(start);
+        }
         self.end = end;
     }
 
-    // Draws the next rank, but none below a least one; none at or above the end.
-    pub fn draw(&mut self, least: Rank) -> Option<Drawn>
-        ensures drawn { result ≡ drawn least self.old }
-        ensures rest { self.new ≡ (if is_some result then after_draw least self.old else self.old) }
+    // Gives the next rank, but none below a least one; none at or above the end.
+    fn draw(&mut self, least: Rank) -> Option<Rank>
+        ensures drawn { result ≡ rank_of least self.old }
+        ensures rest { self.new ≡ gone_on result self.old }
     {
         let end = self.end.0;
         let rank = self.next.max(least);
@@ -145,11 +146,73 @@ impl Block {
             return None;
         }
         self.next = Rank(rank.0 + 1);
-        Some(Drawn { rank })
+        Some(rank)
+    }
+}
+
+impl Blocks {
+    // Blocks that give no rank, each at the end that is known of its series.
+    pub(crate) fn empty(known: Known) -> Blocks
+        ensures { result ≡ empty_blocks (known_ends known) }
+    {
+        Blocks(known.lives.map(|live| Block::empty(live.end)))
+    }
+
+    // The next rank of a series, if that is below its end; 0 for a series above 7.
+    pub fn next(&self, series: u8) -> Rank
+        ensures { result ≡ (block_in self.now series).next }
+    {
+        if series >= 8 {
+            return Rank(0);
+        }
+        self.0[usize::from(series)].next
+    }
+
+    // The end of a series: the first rank that it does not give; 0 for a series above 7.
+    pub fn end(&self, series: u8) -> Rank
+        ensures { result ≡ (block_in self.now series).end }
+    {
+        if series >= 8 {
+            return Rank(0);
+        }
+        self.0[usize::from(series)].end
+    }
+
+    // Takes over the ranks that were reserved, into the block of their series.
+    pub fn fill(&mut self, reserved: Reserved)
+        ensures filled { self.new ≡ filled reserved self.old }
+        ensures only { (s rank : ℕ) → Holds self.new s rank → Holds self.old s rank ⊎ Covers reserved s rank }
+    {
+        let Reserved { series, start, end } = reserved;
+        if series < 8 {
+            self.0[usize::from(series)].extend(start, end);
+        }
+    }
+
+    // Draws the next rank of a series, but none below a least one; none at or above the end, and none of a series above 7.
+    pub fn draw(&mut self, series: u8, least: Rank) -> Option<Drawn>
+        ensures drawn { result ≡ drawn series least self.old }
+        ensures rest { self.new ≡ left_by result self.old }
+        ensures held { IfSome result (λ d. Holds self.old d.series d.rank.0) }
+        ensures once { IfSome result (λ d. (rank : ℕ) → Holds self.new d.series rank → d.rank.0 < rank) }
+        ensures only { (s rank : ℕ) → Holds self.new s rank → Holds self.old s rank }
+    {
+        if series >= 8 {
+            return None;
+        }
+        let rank = self.0[usize::from(series)].draw(least)?;
+        Some(Drawn { series, rank })
     }
 }
 
 impl Drawn {
+    // The series.
+    pub fn series(&self) -> u8
+        ensures { result ≡ self.now.series }
+    {
+        self.series
+    }
+
     // The rank.
     pub fn rank(&self) -> Rank
         ensures { result ≡ self.now.rank }

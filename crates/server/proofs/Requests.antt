@@ -1,7 +1,10 @@
 -- What a call of the ring makes of a request, and of what the server knows.
-use Rattle.std.proofs.Common.{◌≡◌, ℕ, zero, suc, ◌≤◌, List, [], ◌∷◌, length, Bool, true, false, ltb, Option, Some, None, Ok, Err, Result, refl, sym, ap, ◌∙◌, subst, min, max, ◌+◌, ◌-◌, ◌<◌, arith}
-use Rattle.std.proofs.lemmas.List.{get_or-set_same, set-set}
-use Rattle.std.proofs.lemmas.Bool.{lt-ltb, le-leb, lt-leb, ltb-true, ltb-false}
+use Rattle.std.proofs.Common.{◌≡◌, ℕ, zero, suc, ◌≤◌, List, [], ◌∷◌, length, get_or, set, Bool, true, false, cond, ltb, Option, Some, None, Ok, Err, Result, refl, sym, ap, ◌∙◌, subst, min, max, ◌+◌, ◌-◌, ◌<◌, arith}
+use Rattle.std.proofs.lemmas.List.{get_or-set_same, length-map, map-set, set-set}
+use Rattle.std.proofs.lemmas.List.FromFn.{get_or-map-range_with_len, length-map-range_with_len}
+use Rattle.std.proofs.Math.ListN.{get_or-map}
+use Rattle.std.proofs.Math.Seq.{map-set_same}
+use Rattle.std.proofs.lemmas.Bool.{lt-ltb, le-leb, lt-leb, eq-eqb, ltb-true, ltb-false}
 use Rattle.record.specs.declared.numbers.Identifier.{Identifier}
 use Rattle.record.specs.declared.numbers.Rank.{Rank}
 use Rattle.record.specs.declared.numbers.Reading.{Reading as ClockReading}
@@ -9,17 +12,22 @@ use Rattle.record.specs.declared.sector.Format.{Format}
 use Rattle.disk.specs.Meaning.{Meaning}
 use Rattle.kind.specs.Meaning.{Numbering}
 use Rattle.ring.specs.Operations.{outcome}
-use Rattle.ring.specs.Ring.{Agrees, Step}
-use Rattle.ring.specs.Search.{Ended, refusal}
-use Rattle.ring.specs.Token.{empty_block, filled, drawn, after_draw}
+use Rattle.ring.specs.Ring.{known_end, known_ends, Agrees, Step}
+use Rattle.ring.specs.Left.{end_of}
+use Rattle.ring.specs.Search.{reservation, Ended, refusal}
+use Rattle.ring.specs.Token.{empty_block, block_in, with_block, block_ends, extended, filled, drawn, left_by}
 use Rattle.ring.specs.declared.fault.RingFault.{RingFault}
 use Rattle.ring.specs.declared.fault.Interrupted.{Interrupted as Stop}
 use Rattle.ring.specs.declared.fault.RingFault.TheVariants.{Interrupted}
 use Rattle.ring.specs.declared.ring.Ring.{Ring}
+use Rattle.ring.specs.declared.known.Known.{Known}
 use Rattle.ring.specs.declared.token.Block.{Block}
+use Rattle.ring.specs.declared.token.Blocks.{Blocks}
+use Rattle.ring.specs.declared.token.Drawn.{Drawn}
 use Rattle.ring.specs.declared.token.Reserved.{Reserved}
-use Rattle.server.specs.Knows.{Knows}
-use Rattle.server.specs.Rules.{Range, Wish, declines, draws, one, block_end, by_rank, decide, end_at, next_at, block_in, with_block, with_ring, is_fatal, stopped, format, identified, Reserves, TookBlock, TookNone, Ready, Reserving, Does, Gave}
+use Rattle.ring.proofs.Starts.{known_end_is}
+use Rattle.server.specs.Knows.{Knows, KnowsEnds}
+use Rattle.server.specs.Rules.{Range, Wish, declines, draws, one, block_end, by_rank, decide, end_at, next_at, with_blocks, with_ring, is_fatal, stopped, format, identified, Reserves, TookBlock, TookNone, Ready, Reserving, Does, Gave, tries_for, tries_by, tries}
 use Rattle.server.specs.declared.fault.ServerFault.{ServerFault}
 use Rattle.server.specs.declared.fault.ServerFault.TheVariants.{AboveTop, Ring as OfRing}
 use Rattle.server.specs.declared.state.State.{State}
@@ -40,15 +48,16 @@ stopped_tells value (step ∷ steps) (suc zero) fault e = (_, sym (err_same e))
     err_same h = cc
 stopped_tells value (step ∷ steps) (suc (suc supply)) fault e = stopped_tells value steps supply fault e
 
--- a reservation of a ring that knows its disk
-module _ (k : Numbering) (u : Up) (m : Meaning) (knows : Knows k u.ring m) (s : ℕ) (end : Rank) (ring : Ring) (m' : Meaning) where
-  -- once it has ended, the ring knows the disk as it is then
-  knows_ended : (answer : Result Reserved RingFault) → Ended u.ring.format s end m answer ring m' → Knows k ring m'
-  knows_ended answer ended =
-      let form : ring.format ≡ format k m = ended.format ∙ knows.form in
+-- a reservation of a server that knows its disk
+module _ (k : Numbering) (u : Up) (m : Meaning) (knows : Knows k u m) (s : ℕ) (end : Rank) (u' : Up) (m' : Meaning) where
+  -- once it has ended, the server knows the disk as it is then
+  knows_ended : (answer : Result Reserved RingFault) → Ended u.ring.format s end m answer u'.ring m' → KnowsEnds u' → Knows k u' m'
+  knows_ended answer ended ends =
+      let form : u'.ring.format ≡ format k m = ended.format ∙ knows.form in
       record {
         agrees = ended.agrees;
         form = form ∙ ap with_sectors (sym (ap (λ (f : Format). f.sectors) form) ∙ ended.agrees.sized.count);
+        ends = ends;
       }
     where
       with_sectors : ℕ → Format
@@ -62,26 +71,77 @@ outcome_is value x (step ∷ steps) zero e = grind arith
 outcome_is value x (step ∷ steps) (suc zero) e = grind arith
 outcome_is value x (step ∷ steps) (suc (suc supply)) e = outcome_is value x steps supply e
 
+-- no block
+abbrev no_block : Block
+no_block = empty_block (record { 0 = 0 })
+
+-- the blocks in hand of a server that knows their ends
+module _ (u : Up) (ends : KnowsEnds u) where
+  pub eight_blocks : length u.blocks.0 ≡ 8
+  eight_blocks =
+      sym (length-map u.blocks.0 (λ (b : Block). b.end))
+      ∙ ap length ends
+      ∙ length-map-range_with_len (known_end u.ring.known) 0 8
+
+  end_known : (s : ℕ) → s < 8 → (block_in u.blocks s).end ≡ known_end u.ring.known s
+  end_known s l =
+      sym (get_or-map (λ (b : Block). b.end) u.blocks.0 s no_block)
+      ∙ ap (λ (xs : List Rank). get_or xs s no_block.end) ends
+      ∙ get_or-map-range_with_len (known_end u.ring.known) 0 8 s s no_block.end l (omega arith)
+
+-- blocks from which a rank is drawn end as before
+pub ends-drawn : (drawn : Option Drawn) (blocks : Blocks) → block_ends (left_by drawn blocks) ≡ block_ends blocks
+ends-drawn None blocks = refl
+ends-drawn (Some d) blocks = map-set_same (λ (b : Block). b.end) blocks.0 d.series _ no_block refl
+
 -- what a call of the ring's reserve leaves of a server whose ring agrees with its disk
-module _ (u : Up) (m : Meaning) (agrees : Agrees u.ring m) (s : ℕ) (end : Rank) (ring : Ring) (m' : Meaning) (answer : Result Reserved RingFault) (refused : (fault : RingFault) → refusal u.ring.format u.ring.known.top.0 s end ≡ Some fault → (answer ≡ Err fault) × (ring ≡ u.ring) × (m' ≡ m)) (reserves : Agrees u.ring m → refusal u.ring.format u.ring.known.top.0 s end ≡ None → Ended u.ring.format s end m answer ring m') where
+module _ (u : Up) (m : Meaning) (agrees : Agrees u.ring m) (ends : KnowsEnds u) (s : ℕ) (end : Rank) (ring : Ring) (m' : Meaning) (answer : Result Reserved RingFault) (refused : (fault : RingFault) → refusal u.ring.format u.ring.known.top.0 s end ≡ Some fault → (answer ≡ Err fault) × (ring ≡ u.ring) × (m' ≡ m)) (reserves : Agrees u.ring m → refusal u.ring.format u.ring.known.top.0 s end ≡ None → Ended u.ring.format s end m answer ring m') where
   all_of : Reserves u.ring m s end answer ring m'
   all_of = record { refused = refused; reserves = reserves agrees }
 
-  reserved_is : (reserved : Reserved) → answer ≡ Ok reserved → (o : Option RingFault) → refusal u.ring.format u.ring.known.top.0 s end ≡ o → reserved ≡ record { series = s; end = end }
-  reserved_is reserved is None e = outcome_is _ reserved _ _ ((reserves agrees e).answers ∙ is)
-  reserved_is reserved is (Some fault) e =
+  abbrev value : Reserved
+  value = reservation u.ring.format m.reading s end
+
+  not_refused : (reserved : Reserved) → answer ≡ Ok reserved → (o : Option RingFault) → refusal u.ring.format u.ring.known.top.0 s end ≡ o → refusal u.ring.format u.ring.known.top.0 s end ≡ None
+  not_refused reserved is None e = e
+  not_refused reserved is (Some fault) e =
       absurd (let z : ◌≡◌ {A = Result Reserved RingFault} (Ok reserved) (Err fault) = sym is ∙ (refused fault e).0 in let y : ◌≡◌ {A = ℕ} 0 1 = cc in omega arith)
+
+  below : refusal u.ring.format u.ring.known.top.0 s end ≡ None → s < 8
+  below e = grind arith
+
+  -- the block of the series goes on
+  goes_on : s < 8 → filled value u.blocks ≡ with_block u.blocks s (record { next = (block_in u.blocks s).next; end = end })
+  goes_on l =
+      let same : (block_in u.blocks s).end.0 ≡ end_of u.ring.format m.reading s =
+      ap (λ (x : Rank). x.0) (end_known u ends s l)
+      ∙ ap (λ (x : Known). (known_end x s).0) agrees.knows
+      ∙ known_end_is u.ring.format m.reading s l in
+      rw (eq-eqb _ _ same) refl
 
   pub took_well :
       (reserved : Reserved) (u' : Up) → answer ≡ Ok reserved →
-      u' ≡ with_block (with_ring u ring) s (filled reserved (block_in u.blocks s)) → TookBlock u m s end u' m'
+      u' ≡ record { ring = ring; blocks = filled reserved u.blocks } → TookBlock u m s end u' m'
   took_well reserved u' is has =
-      let same = reserved_is reserved is (refusal u.ring.format u.ring.known.top.0 s end) refl in
+      let none = not_refused reserved is (refusal u.ring.format u.ring.known.top.0 s end) refl in
+      let same : reserved ≡ value = outcome_is _ reserved _ _ ((reserves agrees none).answers ∙ is) in
       record {
         ring = ring;
         reserves = subst (λ (x : Result Reserved RingFault). Reserves u.ring m s end x ring m') (is ∙ ap (λ (x : Reserved). Ok x) same) all_of;
-        has = has ∙ ap (λ (x : Reserved). with_block (with_ring u ring) s (filled x (block_in u.blocks s))) same;
+        has = has ∙ ap (λ (x : Reserved). with_blocks (with_ring u ring) (filled x u.blocks)) same ∙ ap (with_blocks (with_ring u ring)) (goes_on (below none));
       }
+
+  -- and the blocks end where the ring knows that their series do
+  pub took_ends :
+      (reserved : Reserved) (u' : Up) → answer ≡ Ok reserved → u' ≡ record { ring = ring; blocks = filled reserved u.blocks } →
+      known_ends ring.known ≡ set (known_ends u.ring.known) s end → KnowsEnds u'
+  took_ends reserved u' is has alone =
+      let none = not_refused reserved is (refusal u.ring.format u.ring.known.top.0 s end) refl in
+      let same : reserved ≡ value = outcome_is _ reserved _ _ ((reserves agrees none).answers ∙ is) in
+      subst KnowsEnds (sym (has ∙ ap (λ (x : Reserved). with_blocks (with_ring u ring) (filled x u.blocks)) same))
+      (map-set (λ (b : Block). b.end) u.blocks.0 s (extended value.start end (block_in u.blocks s))
+      ∙ ap (λ (xs : List Rank). set xs s end) ends
+      ∙ sym alone)
 
   ring_same : (fault : RingFault) → answer ≡ Err fault → is_fatal fault ≡ false → (o : Option RingFault) → refusal u.ring.format u.ring.known.top.0 s end ≡ o → (ring ≡ u.ring) × (m' ≡ m)
   ring_same fault is quiet None e =
@@ -133,17 +193,29 @@ module _ (k : Numbering) (u : Up) (s : ℕ) (reading : ClockReading) (floor rank
 
 -- a block that is ready leaves a server that knows its disk
 pub ready_knows :
-    (k : Numbering) (u : Up) (m : Meaning) (knows : Knows k u.ring m) (s : ℕ) (end : Rank) (b : Bool) (u' : Up) (m' : Meaning) →
-    Ready b u m s end (Ok tt) u' m' → Knows k u'.ring m'
-ready_knows k u m knows s end true u' m' ready =
-    subst (λ (x : Up). Knows k x.ring m') (sym ready.1) (subst (λ (x : Meaning). Knows k u.ring x) (sym ready.2) knows)
-ready_knows k u m knows s end false u' m' took =
-    subst (λ (x : Up). Knows k x.ring m') (sym took.has) (by_refusal (refusal u.ring.format u.ring.known.top.0 s end) refl)
+    (k : Numbering) (u : Up) (m : Meaning) (knows : Knows k u m) (s : ℕ) (end : Rank) (b : Bool) (u' : Up) (m' : Meaning) →
+    Ready b u m s end (Ok tt) u' m' → KnowsEnds u' → Knows k u' m'
+ready_knows k u m knows s end true u' m' ready ends =
+    subst (λ (x : Up). Knows k x m') (sym ready.1) (subst (λ (x : Meaning). Knows k u x) (sym ready.2) knows)
+ready_knows k u m knows s end false u' m' took ends =
+    by_refusal (refusal u.ring.format u.ring.known.top.0 s end) refl
   where
-    by_refusal : (o : Option RingFault) → refusal u.ring.format u.ring.known.top.0 s end ≡ o → Knows k took.ring m'
-    by_refusal None e = knows_ended k u m knows s end took.ring m' _ (took.reserves.reserves e)
+    same : u'.ring ≡ took.ring
+    same = ap (λ (x : Up). x.ring) took.has
+
+    by_refusal : (o : Option RingFault) → refusal u.ring.format u.ring.known.top.0 s end ≡ o → Knows k u' m'
+    by_refusal None e =
+        knows_ended k u m knows s end u' m' (Ok (reservation u.ring.format m.reading s end))
+        (subst (λ (x : Ring). Ended u.ring.format s end m (Ok (reservation u.ring.format m.reading s end)) x m') (sym same) (took.reserves.reserves e))
+        ends
     by_refusal (Some fault) e =
-        absurd (let z : ◌≡◌ {A = Result Reserved RingFault} (Ok (record { series = s; end = end })) (Err fault) = (took.reserves.refused fault e).0 in let y : ◌≡◌ {A = ℕ} 0 1 = cc in omega arith)
+        absurd (let z : ◌≡◌ {A = Result Reserved RingFault} (Ok (reservation u.ring.format m.reading s end)) (Err fault) = (took.reserves.refused fault e).0 in let y : ◌≡◌ {A = ℕ} 0 1 = cc in omega arith)
+
+-- and so does a draw
+pub drawn_knows :
+    (k : Numbering) (u : Up) (m : Meaning) (drawn : Option Drawn) → Knows k u m → Knows k (with_blocks u (left_by drawn u.blocks)) m
+drawn_knows k u m drawn knows =
+    record { agrees = knows.agrees; form = knows.form; ends = ends-drawn drawn u.blocks ∙ knows.ends }
 
 -- a denial that is not fatal leaves all as it was
 pub ready_stays :
@@ -152,29 +224,55 @@ pub ready_stays :
 ready_stays u m s end true fault u' m' ready quiet = (ready.1, ready.2)
 ready_stays u m s end false fault u' m' took quiet = took.same quiet
 
+-- a request for a rank as far as the top, with the end of the block that it would reserve
+pub record Asks (k : Numbering) (u : Up) (s : ℕ) (reading : ClockReading) (floor rank end : Rank) : Type 0 where
+  pub below : s < 8
+  pub ends : KnowsEnds u
+  pub floors : k.floor reading ≡ Some floor
+  pub is : rank.0 ≡ max (next_at u s) floor.0
+  pub lawful : rank.0 ≤ k.top.0
+  pub block : end ≡ block_end k rank
+  pub some : 1 ≤ k.block
+
 -- a request whose block is ready
-module _ (k : Numbering) (u : Up) (m : Meaning) (s : ℕ) (reading : ClockReading) (floor rank end' : Rank) (below : s < 8) (eight : length u.blocks ≡ 8) (floors : k.floor reading ≡ Some floor) (is : rank.0 ≡ max (block_in u.blocks s).next.0 floor.0) (lawful : rank.0 ≤ k.top.0) (ends : end' ≡ block_end k rank) (some : 1 ≤ k.block) (u' : Up) (m' : Meaning) where
+module _ {k : Numbering} {u : Up} {s : ℕ} {reading : ClockReading} {floor rank end' : Rank} (asks : Asks k u s reading floor rank end') (m : Meaning) (u' : Up) (m' : Meaning) where
   abbrev own : Block
   own = block_in u.blocks s
 
-  drawn_below : (b : Block) → b.next ≡ own.next → rank.0 < b.end.0 → drawn floor b ≡ Some (record { rank = rank })
-  drawn_below b same inside = grind (arith, is, lt-ltb (max b.next.0 floor.0) b.end.0)
+  -- what is drawn, out of a block that goes on from there
+  abbrev d : Drawn
+  d = record { series = s; rank = rank }
 
-  after_drawn : (b : Block) → b.next ≡ own.next → after_draw floor b ≡ record { next = record { 0 = rank.0 + 1 }; end = b.end }
-  after_drawn b same = rw (same, sym is) refl
+  -- what it tries is what its reservation tries, where it needs one
+  pub tries-ready :
+      tries k (Awake u) m (one s reading)
+      ≡ cond (ltb rank.0 own.end.0) [] (tries_for u.ring m s end' (refusal u.ring.format u.ring.known.top.0 s end'))
+  tries-ready = by_end (ltb rank.0 own.end.0) refl
+    where
+      by_end :
+          (b : Bool) → ltb rank.0 own.end.0 ≡ b →
+          tries k (Awake u) m (one s reading) ≡ cond b [] (tries_for u.ring m s end' (refusal u.ring.format u.ring.known.top.0 s end'))
+      by_end true e = ap (tries_by u m) (asks_inside k u s reading floor rank asks.below asks.floors asks.is asks.lawful (ltb-true rank.0 own.end.0 e))
+      by_end false e =
+          ap (tries_by u m) (asks_block k u s reading floor rank asks.below asks.floors asks.is asks.lawful (ltb-false rank.0 own.end.0 e))
+          ∙ ap (λ (x : Rank). tries_for u.ring m s x (refusal u.ring.format u.ring.known.top.0 s x)) (sym asks.block)
+
+  drawn_below : (blocks : Blocks) → (block_in blocks s).next ≡ own.next → rank.0 < (block_in blocks s).end.0 → drawn s floor blocks ≡ Some d
+  drawn_below blocks same inside =
+      let high : max (block_in blocks s).next.0 floor.0 ≡ rank.0 = ap (λ (x : Rank). max x.0 floor.0) same ∙ sym asks.is in
+      rw (high, lt-ltb rank.0 (block_in blocks s).end.0 inside) refl
 
   abbrev Gives : Type 0
   Gives =
-      (drawn floor (block_in u'.blocks s) ≡ Some (record { rank = rank }))
-      × Gave k (Awake u) m s reading (Ok (k.identifier s rank)) (Awake (with_block u' s (after_draw floor (block_in u'.blocks s)))) m'
+      (drawn s floor u'.blocks ≡ Some d)
+      × Gave k (Awake u) m s reading (Ok (k.identifier s rank)) (Awake (with_blocks u' (left_by (Some d) u'.blocks))) m'
 
   in_hand : rank.0 < own.end.0 → u' ≡ u → m' ≡ m → Gives
   in_hand inside same-up same-meaning = (
-    subst (λ (x : Up). drawn floor (block_in x.blocks s) ≡ Some (record { rank = rank })) (sym same-up) (drawn_below own refl inside),
-    subst (λ (w : Wish). Does (identified k) u m w (Ok (k.identifier s rank)) (Awake (with_block u' s (after_draw floor (block_in u'.blocks s)))) m') (sym (asks_inside k u s reading floor rank below floors is lawful inside)) (
+    ap (λ (x : Up). drawn s floor x.blocks) same-up ∙ drawn_below u.blocks refl inside,
+    subst (λ (w : Wish). Does (identified k) u m w (Ok (k.identifier s rank)) (Awake (with_blocks u' (left_by (Some d) u'.blocks))) m') (sym (asks_inside k u s reading floor rank asks.below asks.floors asks.is asks.lawful inside)) (
       refl,
-      ap (λ (x : Up). Awake (with_block x s (after_draw floor (block_in x.blocks s)))) same-up
-          ∙ ap (λ (x : Block). Awake (with_block u s x)) (after_drawn own refl),
+      ap (λ (x : Up). Awake (with_blocks x (left_by (Some d) x.blocks))) same-up,
       same-meaning,
     ),
   )
@@ -183,35 +281,37 @@ module _ (k : Numbering) (u : Up) (m : Meaning) (s : ℕ) (reading : ClockReadin
     abbrev new : Block
     new = record { next = own.next; end = end' }
 
+    abbrev last : Block
+    last = record { next = record { 0 = rank.0 + 1 }; end = end' }
+
     out_of_block : TookBlock u m s end' u' m' → Gives
     out_of_block took =
         let held : block_in u'.blocks s ≡ new =
-        ap (λ (x : Up). block_in x.blocks s) took.has ∙ get_or-set_same u.blocks s new (empty_block (record { 0 = 0 })) (omega arith) in
-        let high : end'.0 ≡ min (rank.0 + k.block) (k.top.0 + 1) = ap (λ (x : Rank). x.0) ends in
-        let inside : rank.0 < end'.0 = omega arith in (
-          subst (λ (x : Block). drawn floor x ≡ Some (record { rank = rank })) (sym held) (drawn_below new refl inside),
-          needs_block k u s reading floor rank below floors is m _ _ m' lawful outside
+        ap (λ (x : Up). block_in x.blocks s) took.has ∙ get_or-set_same u.blocks.0 s new no_block (omega (arith, asks.below, eight_blocks u asks.ends)) in
+        let high : end'.0 ≡ min (rank.0 + k.block) (k.top.0 + 1) = ap (λ (x : Rank). x.0) asks.block in
+        let inside : rank.0 < end'.0 = omega (arith, asks.lawful, asks.some) in (
+          drawn_below u'.blocks (ap (λ (x : Block). x.next) held) (omega (arith, ap (λ (x : Block). x.end.0) held)),
+          needs_block k u s reading floor rank asks.below asks.floors asks.is m _ _ m' asks.lawful outside
               (record {
                 ring = took.ring;
-                answer = Ok (record { series = s; end = end' });
-                reserves = subst (λ (x : Rank). Reserves u.ring m s x (Ok (record { series = s; end = end' })) took.ring m') ends took.reserves;
+                answer = Ok (reservation u.ring.format m.reading s end');
+                reserves = subst (λ (x : Rank). Reserves u.ring m s x (Ok (reservation u.ring.format m.reading s end')) took.ring m') asks.block took.reserves;
                 answered = (
                   refl,
-                  ap (λ (x : Block). Awake (with_block u' s (after_draw floor x))) held
-                      ∙ ap (λ (x : Block). Awake (with_block u' s x)) (after_drawn new refl)
-                      ∙ ap (λ (x : Up). Awake (with_block x s (record { next = record { 0 = rank.0 + 1 }; end = end' }))) took.has
-                      ∙ ap (λ (x : List Block). Awake (record { ring = took.ring; blocks = x })) (set-set u.blocks s new (record { next = record { 0 = rank.0 + 1 }; end = end' })),
+                  ap (λ (x : Block). Awake (with_blocks u' (with_block u'.blocks s (record { next = record { 0 = rank.0 + 1 }; end = x.end })))) held
+                      ∙ ap (λ (x : Up). Awake (with_blocks x (with_block x.blocks s last))) took.has
+                      ∙ ap (λ (x : List Block). Awake (record { ring = took.ring; blocks = record { 0 = x } })) (set-set u.blocks.0 s new last),
                 );
               }),
         )
 
     denied_by : (fault : RingFault) → TookNone u m s end' fault u' m' → Gave k (Awake u) m s reading (Err (OfRing fault)) (stopped u fault) m'
     denied_by fault took =
-        needs_block k u s reading floor rank below floors is m _ _ m' lawful outside
+        needs_block k u s reading floor rank asks.below asks.floors asks.is m _ _ m' asks.lawful outside
         (record {
           ring = took.ring;
           answer = Err fault;
-          reserves = subst (λ (x : Rank). Reserves u.ring m s x (Err fault) took.ring m') ends took.reserves;
+          reserves = subst (λ (x : Rank). Reserves u.ring m s x (Err fault) took.ring m') asks.block took.reserves;
           answered = (refl, refl);
         })
 

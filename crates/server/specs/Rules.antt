@@ -1,5 +1,5 @@
 -- The server's rules: waking, what a request asks for, and what each call answers and leaves.
-use Rattle.std.specs.Prelude.{◌≡◌, ℕ, ◌+◌, ◌-◌, min, max, Bool, true, false, cond, List, [], map, Some, None, Ok, Err, Option, Result, nat_le, nat_lt, slice_index_or, slice_set}
+use Rattle.std.specs.Prelude.{◌≡◌, ℕ, ◌+◌, ◌-◌, min, max, Bool, true, false, cond, List, [], Some, None, Ok, Err, Option, Result, nat_le, nat_lt}
 use Rattle.record.specs.declared.numbers.Identifier.{Identifier}
 use Rattle.record.specs.declared.numbers.Rank.{Rank}
 use Rattle.record.specs.declared.numbers.Reading.{Reading as ClockReading}
@@ -9,12 +9,12 @@ use Rattle.disk.specs.Meaning.{Meaning, Cut, count}
 use Rattle.kind.specs.Meaning.{Numbering}
 use Rattle.ring.specs.Operations.{Op, tried}
 use Rattle.ring.specs.Ring.{known_ends, plan, recovered}
-use Rattle.ring.specs.Token.{empty_block}
-use Rattle.ring.specs.Search.{Ended, refusal}
+use Rattle.ring.specs.Token.{empty_blocks, block_in, with_block}
+use Rattle.ring.specs.Search.{reservation, Ended, refusal}
 use Rattle.ring.specs.declared.fault.RingFault.{RingFault}
 use Rattle.ring.specs.declared.fault.RingFault.TheVariants.{Exhausted}
 use Rattle.ring.specs.declared.ring.Ring.{Ring}
-use Rattle.ring.specs.declared.token.Block.{Block}
+use Rattle.ring.specs.declared.token.Blocks.{Blocks}
 use Rattle.ring.specs.declared.token.Reserved.{Reserved}
 use Rattle.server.specs.declared.fault.ServerFault.{ServerFault}
 use Rattle.server.specs.declared.fault.ServerFault.TheVariants.{Down as WasDown, Series, Reading, AboveTop, Ring as OfRing}
@@ -28,16 +28,12 @@ format k m = record { tag = k.tag; top = k.top; sectors = count m }
 
 -- waking sets the next rank of each series to its end
 abbrev pub awake : Result Ring RingFault → State
-awake (Ok r) = Awake (record { ring = r; blocks = map empty_block (known_ends r.known) })
+awake (Ok r) = Awake (record { ring = r; blocks = empty_blocks (known_ends r.known) })
 awake (Err fault) = Down fault
 
--- the block in hand of a series, an empty one past the list
-abbrev pub block_in : List Block → ℕ → Block
-block_in blocks s = slice_index_or blocks s (empty_block (record { 0 = 0 }))
-
--- the server with another block of a series
-abbrev pub with_block : Up → ℕ → Block → Up
-with_block u s block = record { ring = u.ring; blocks = slice_set u.blocks s block }
+-- the server with other blocks in hand
+abbrev pub with_blocks : Up → Blocks → Up
+with_blocks u blocks = record { ring = u.ring; blocks = blocks }
 
 -- the server with another ring
 abbrev pub with_ring : Up → Ring → Up
@@ -110,8 +106,11 @@ pub record Reserves (ring : Ring) (m : Meaning) (s : ℕ) (end : Rank) (answer :
 -- a block that is reserved up to an end is in hand; else the ring's denial, and where it is not fatal nothing has changed
 pub record TookBlock (u : Up) (m : Meaning) (s : ℕ) (end : Rank) (u' : Up) (m' : Meaning) : Type 0 where
   pub ring : Ring
-  pub reserves : Reserves u.ring m s end (Ok (record { series = s; end = end })) ring m'
-  pub has : u' ≡ with_block (with_ring u ring) s (record { next = (block_in u.blocks s).next; end = end })
+  pub reserves : Reserves u.ring m s end (Ok (reservation u.ring.format m.reading s end)) ring m'
+  pub has :
+      u'
+      ≡ with_blocks (with_ring u ring)
+      (with_block u.blocks s (record { next = (block_in u.blocks s).next; end = end }))
 
 pub record TookNone (u : Up) (m : Meaning) (s : ℕ) (end : Rank) (fault : RingFault) (u' : Up) (m' : Meaning) : Type 0 where
   pub ring : Ring
@@ -148,7 +147,8 @@ tries k (Awake u) m ask = tries_by u m (decide k (end_at u) (next_at u) ask)
 -- the state after so many ranks were drawn from a first one on, out of a block up to an end: the series' next rank is the one
 -- after them
 abbrev pub drawn : Up → ℕ → Rank → ℕ → ℕ → State
-drawn u s end first n = Awake (with_block u s (record { next = record { 0 = first + n }; end = end }))
+drawn u s end first n =
+    Awake (with_blocks u (with_block u.blocks s (record { next = record { 0 = first + n }; end = end })))
 
 -- what the ring's answer makes of a draw: it is given after the flush; a denial is passed on
 abbrev pub Answered : {A : Type 0} → Up → ℕ → ℕ → ℕ → A → Ring → Result Reserved RingFault → Result A ServerFault → State → Type 0

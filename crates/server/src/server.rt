@@ -1,5 +1,6 @@
 // The server over any disk and any kind.
-ghost use Rattle.std.specs.Prelude.{◌≡◌};
+ghost use Rattle.std.specs.Prelude.{◌≡◌, ◌<◌, ◌≤◌};
+ghost use Rattle.std.specs.Option.{SomeIff};
 ghost use Rattle.server.specs.Knows.{Knows, KnowsDisk, KnowsDisk-prop};
 ghost use Rattle.ring.specs.Operations.{Chain};
 ghost use Rattle.server.specs.Rules.{one, tries, woken, Gave, WasCut};
@@ -9,17 +10,26 @@ use crate::state::{State, brings_down, wake};
 use disk::Disk;
 use kind::Kind;
 use record::{Identifier, Rank, Reading, Sequence};
-use ring::Ring;
+use ring::{Drawn, Ring};
 
-// A disk, a kind, and whether the server is up. While it is, its ring knows what the disk reads: no server is without that,
-// so each contract speaks of every server there is. The kind stays: each call says so, since that ties two values of this
-// type together, which a fact about one cannot.
+// A disk, a kind, and whether the server is up. While it is, its ring knows what the disk reads, and the blocks in hand end where
+// the ring knows that their series do: no server is without that, so each contract speaks of every server there is. The kind
+// stays: each call says so, since that ties two values of this type together, which a fact about one cannot.
 #[derive(Drop)]
 pub struct Server<D: Disk, K: Kind> {
     pub(crate) disk: D,
     pub(crate) kind: K,
     pub(crate) state: State,
     ghost knows: { KnowsDisk (K.numbering kind) state (D.meaning disk) } by { KnowsDisk-prop (K.numbering kind) state (D.meaning disk) },
+}
+
+// The identifier of a rank that was drawn. The kind is asked for no other.
+fn identify<K: Kind>(kind: &K, drawn: Drawn) -> Option<Identifier>
+    ensures { SomeIff result
+        ((drawn.series < 8) × (drawn.rank.0 ≤ (K.numbering kind.now).top.0))
+        ((K.numbering kind.now).identifier drawn.series drawn.rank) }
+{
+    kind.identifier(drawn.series(), drawn.rank())
 }
 
 impl<D: Disk, K: Kind> Server<D, K> {
@@ -59,9 +69,7 @@ impl<D: Disk, K: Kind> Server<D, K> {
             return Err(ServerFault::Ring(fault));
         }
         let drawn = up.draw(series, floor).ok_or(ServerFault::AboveTop)?;
-        self.kind
-            .identifier(series, drawn.rank())
-            .ok_or(ServerFault::AboveTop)
+        identify(&self.kind, drawn).ok_or(ServerFault::AboveTop)
     }
 
     // A power cut, and the fresh start after it: answers the top record.

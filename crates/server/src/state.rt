@@ -1,20 +1,20 @@
 // Whether the server is up, and what it has in hand.
-ghost use Rattle.std.specs.Prelude.{◌≡◌, ◌<◌, [], length, nat_lt, cond, IfSome};
+ghost use Rattle.std.specs.Prelude.{◌≡◌, [], nat_lt, cond, IfOk};
 ghost use Rattle.ring.specs.Operations.{Chain};
 ghost use Rattle.ring.specs.Ring.{Agrees};
 ghost use Rattle.ring.specs.Search.{refusal};
-ghost use Rattle.ring.specs.Token.{drawn, after_draw};
-ghost use Rattle.server.specs.Rules.{awake, block_in, with_block, is_fatal, tries_for, Ready, Took};
+ghost use Rattle.ring.specs.Token.{block_in, drawn, filled, left_by};
+ghost use Rattle.server.specs.Rules.{awake, with_blocks, is_fatal, tries_for, Ready, Took};
 
 use disk::Disk;
 use record::Rank;
-use ring::{Block, Drawn, Ring, RingFault};
+use ring::{Blocks, Drawn, Reserved, Ring, RingFault};
 
-// A server that is up: its ring, and of each series the block in hand.
+// A server that is up: its ring, and the blocks in hand of all series.
 #[derive(Drop)]
 pub struct Up {
     pub(crate) ring: Ring,
-    pub(crate) blocks: [Block; 8],
+    pub(crate) blocks: Blocks,
 }
 
 // Up, or down with the fault that brought the server down. It has the shape of a Result and names of its own: a server that is
@@ -26,31 +26,28 @@ pub enum State {
 }
 
 impl Up {
+    ghost use Rattle.server.specs.Knows.{KnowsEnds};
+
     // The next rank of a series.
     pub(crate) fn next(&self, series: u8) -> Rank
-        requires { series < 8 }
-        ensures next { result ≡ (block_in self.now.blocks series).next }
-        ensures eight { length self.now.blocks ≡ 8 }
+        ensures { result ≡ (block_in self.now.blocks series).next }
     {
-        self.blocks[usize::from(series)].next()
-    }
-
-    // The end of the block in hand of a series.
-    pub(crate) fn end(&self, series: u8) -> Rank
-        requires { series < 8 }
-        ensures { result ≡ (block_in self.now.blocks series).end }
-    {
-        self.blocks[usize::from(series)].end()
+        self.blocks.next(series)
     }
 
     // Draws a rank of a series, none below a least one.
     pub(crate) fn draw(&mut self, series: u8, least: Rank) -> Option<Drawn>
-        requires { series < 8 }
-        ensures drawn { result ≡ drawn least (block_in self.old.blocks series) }
-        ensures ring { self.new.ring ≡ self.old.ring }
-        ensures rest { IfSome result (λ _. self.new ≡ with_block self.old series (after_draw least (block_in self.old.blocks series))) }
+        ensures drawn { result ≡ drawn series least self.old.blocks }
+        ensures rest { self.new ≡ with_blocks self.old (left_by result self.old.blocks) }
     {
-        self.blocks[usize::from(series)].draw(least)
+        self.blocks.draw(series, least)
+    }
+
+    // Takes the ranks that were reserved in hand.
+    pub(crate) fn take(&mut self, reserved: Reserved)
+        ensures { self.new ≡ with_blocks self.old (filled reserved self.old.blocks) }
+    {
+        self.blocks.fill(reserved);
     }
 
     // Reserves up to a new end, and takes the block in hand.
@@ -61,18 +58,17 @@ impl Up {
         series: u8,
         end: Rank,
     ) -> Result<(), RingFault>
-        requires series { series < 8 }
         requires agrees { Agrees self.old.ring (D.meaning disk.old) }
+        requires ends { KnowsEnds self.old }
         ensures took { Took self.old (D.meaning disk.old) series end result self.new (D.meaning disk.new) }
+        ensures ends { IfOk result (λ _. KnowsEnds self.new) }
         ensures moves { Chain D.moves disk.old (tries_for self.old.ring (D.meaning disk.old) series end (refusal self.old.ring.format self.old.ring.known.top.0 series end)) disk.new }
     {
         let reserved = self.ring.reserve(disk, series, end)?;
-        self.blocks[usize::from(series)].fill(reserved);
+        self.take(reserved);
         Ok(())
     }
-}
 
-impl Up {
     // Has a block in hand that ends above a rank: the one that it has, or one that it reserves up to a new end.
     pub(crate) fn ready<D: Disk>(
         &mut self,
@@ -81,12 +77,13 @@ impl Up {
         rank: Rank,
         end: Rank,
     ) -> Result<(), RingFault>
-        requires series { series < 8 }
         requires agrees { Agrees self.old.ring (D.meaning disk.old) }
+        requires ends { KnowsEnds self.old }
         ensures ready { Ready (nat_lt rank.0 (block_in self.old.blocks series).end.0) self.old (D.meaning disk.old) series end result self.new (D.meaning disk.new) }
+        ensures ends { IfOk result (λ _. KnowsEnds self.new) }
         ensures moves { Chain D.moves disk.old (cond (nat_lt rank.0 (block_in self.old.blocks series).end.0) [] (tries_for self.old.ring (D.meaning disk.old) series end (refusal self.old.ring.format self.old.ring.known.top.0 series end))) disk.new }
     {
-        if rank < self.end(series) {
+        if rank < self.blocks.end(series) {
             return Ok(());
         }
         self.extend(disk, series, end)

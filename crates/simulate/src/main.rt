@@ -28,20 +28,16 @@ impl<W: Write> Session<'_, W> {
         buffer: &mut [u8],
     ) -> anyhow::Result<ControlFlow<()>> {
         self.print.clear();
-        let stops = match read_piece(input, buffer)? {
+        let flow = match read_piece(input, buffer)? {
             0 => {
                 self.feed.finish(&mut self.print)?;
-                true
+                ControlFlow::Break(())
             }
             count => self.feed.feed(&buffer[..count], &mut self.print)?,
         };
         self.out.write_all(&self.print)?;
         self.out.flush()?;
-        Ok(if stops {
-            ControlFlow::Break(())
-        } else {
-            ControlFlow::Continue(())
-        })
+        Ok(flow)
     }
 }
 

@@ -1,21 +1,30 @@
--- The print of lines that come in pieces.
-use Rattle.std.proofs.Common.{◌≡◌, ℕ, suc, ◌+◌, ◌<◌, ◌≤◌, Bool, true, false, cond, eqb, leb, List, [], ◌∷◌, ◌++◌, length, take, drop, Some, None, Option, sym, refl, ap, ◌∙◌, append_assoc, arith, ⊎_elim}
-use lib.Seq.{take-append-add, drop-append-add}
+-- Lines that come in pieces.
+use Rattle.std.proofs.Common.{◌≡◌, ℕ, suc, ◌<◌, ◌≤◌, Bool, true, false, cond, eqb, leb, List, [], ◌∷◌, ◌++◌, length, replicate, take, drop, Some, None, Option, Result, sym, refl, ap, ◌∙◌, subst, append_assoc, arith, option_map, ⊎_elim}
 use Rattle.std.proofs.lemmas.Bool.{cases_lt}
-use Rattle.std.proofs.lemmas.List.{append-nil, take_all, take-take, take-append-le, drop-append-le, length-take-le}
+use Rattle.std.proofs.lemmas.Grind.{flat_map-append}
+use Rattle.std.proofs.lemmas.List.{append-nil, take_all, take-take, take-append-le, length-take-le}
+use Rattle.std.proofs.lemmas.List.Elements.{filter_map-append}
 use Rattle.std.proofs.lemmas.Option.{none-some}
-use Rattle.simulator.specs.Feeds.{Pending, Answers}
-use Rattle.simulator.specs.Files.{stops, past, rest_after, print_rest, print_line, print_from, print_of_lines}
-use Rattle.simulator.specs.Lines.{end_after, line_end, up_to, first_bytes, held}
+use Rattle.std.specs.List.{cons_option, filter_map, flat_map}
+use Rattle.std.specs.declared.ops.ControlFlow.TheVariants.{Continue, Break}
+use Rattle.history.specs.declared.calls.Call.{Call}
+use Rattle.history.specs.declared.calls.Turn.{Turn}
+use Rattle.simulator.specs.Calls.{call_by, turn_in, added, Extends}
+use Rattle.simulator.specs.Feeds.{Holds, IsBegun, Takes, held_row, Answers, GoesOn, Stops, Ends}
+use Rattle.simulator.specs.Files.{Flow, flow_after, unless_broken, rows_after, rows_of, last_run, begun as begun_run, print_of_file, FileServed}
+use Rattle.simulator.specs.Histories.{RunServed}
+use Rattle.simulator.specs.Lines.{line_end, up_to, first_bytes, ended_if, lines_from, lines_of, held}
 use Rattle.simulator.specs.Request.{command_in, fields_in}
 use Rattle.simulator.specs.Stages.{View}
 use Rattle.simulator.specs.Steps.{Done, denied, asked, step_of}
-use Rattle.simulator.specs.Takes.{Run, run_of, line_done, print_of, counted, ended_by}
+use Rattle.simulator.specs.Takes.{Run, run_of, Row, row_of, run_after, print_of, turn_of, Taken, taken_by, counted, ended_by}
+use Rattle.simulator.specs.declared.answer.Answer.{Answer}
+use Rattle.simulator.specs.declared.answer.Denial.{Denial}
 use Rattle.simulator.specs.declared.answer.Denial.TheVariants.{TooMany}
 use Rattle.simulator.specs.declared.feed.Feed.{Feed}
 use Rattle.simulator.specs.declared.partial.Partial.{Partial}
+use Rattle.simulator.specs.declared.simulator.Simulator.{Simulator}
 use Rattle.simulator.proofs.Enough.{tells_as_much}
-use Rattle.simulator.proofs.Files.{one_line}
 
 -- a line does what its first 22 bytes do
 same_step : (v : View) (line : List ℕ) → step_of v (take 22 line) ≡ step_of v line
@@ -23,50 +32,62 @@ same_step v line =
     ap (λ c. asked v c (λ command. fields_in command (take 22 line))) (tells_as_much.command line)
     ∙ ap (asked v (command_in line)) (λ i command. tells_as_much.fields command line i)
 
-same_done : (run : Run) (line : List ℕ) → line_done run (take 22 line) ≡ line_done run line
-same_done run line =
-    ap (λ (d : Done). ended_by (cond (leb (counted run.taken) 999999) d (denied TooMany run.view))) (same_step run.view line)
+same_row : (run : Run) (line : List ℕ) → row_of run (take 22 line) ≡ row_of run line
+same_row run line =
+    let call =
+    ap (λ c. call_by c (λ command. fields_in command (take 22 line))) (tells_as_much.command line)
+    ∙ ap (call_by (command_in line)) (λ i command. tells_as_much.fields command line i) in
+    let done =
+    ap (λ (d : Done). ended_by (cond (leb (counted run.taken) 999999) d (denied TooMany run.view))) (same_step run.view line) in
+    same_parts (counted run.taken) call done
+  where
+    same_parts :
+        (number : ℕ) {call call' : Option Call} {done done' : Done} → call ≡ call' → done ≡ done' →
+        ◌≡◌ {A = Row} (record { number = number; call = call; done = done }) (record { number = number; call = call'; done = done' })
+    same_parts number c d = rw (c, d)
 
--- where the first line feed is, after bytes without one
-end_later : (at : ℕ) (line bytes : List ℕ) → end_after at line ≡ None → end_after at (line ++ bytes) ≡ end_after (at + length line) bytes
-end_later at [] bytes e = ap (λ (n : ℕ). end_after n bytes) (omega arith)
-end_later at (b ∷ line) bytes e = by_byte (eqb b 10) (end_later (at + 1) line bytes) e
+some_same : (x y : ℕ) → ◌≡◌ {A = Option ℕ} (Some x) (Some y) → x ≡ y
+some_same x y e = cc
+
+-- a line that has begun ends with the first line feed that comes
+pub line_ends :
+    (bytes more line : List ℕ) (n : ℕ) → line_end bytes ≡ Some n →
+    lines_from (bytes ++ more) line ≡ (line ++ take n bytes) ∷ lines_from (drop n bytes ++ more) []
+unfolding lines_from
+line_ends [] more line n e = absurd (none-some n e)
+line_ends (b ∷ bytes) more line n e =
+    by_byte (eqb b 10) (line_end bytes) (λ m is. line_ends bytes more (line ++ (b ∷ [])) m is) e
   where
     by_byte :
-        (found : Bool) →
-        (end_after (at + 1) line ≡ None → end_after (at + 1) (line ++ bytes) ≡ end_after (at + 1 + length line) bytes) →
-        cond found (Some (at + 1)) (end_after (at + 1) line) ≡ None →
-        cond found (Some (at + 1)) (end_after (at + 1) (line ++ bytes)) ≡ end_after (at + suc (length line)) bytes
-    by_byte true later e = absurd (none-some (at + 1) (sym e))
-    by_byte false later e = later e ∙ ap (λ (n : ℕ). end_after n bytes) (omega arith)
+        (found : Bool) (end : Option ℕ) →
+        ((m : ℕ) → end ≡ Some m →
+        lines_from (bytes ++ more) (line ++ (b ∷ [])) ≡ ((line ++ (b ∷ [])) ++ take m bytes) ∷ lines_from (drop m bytes ++ more) []) →
+        cond found (Some 1) (option_map suc end) ≡ Some n →
+        ended_if found (line ++ (b ∷ [])) (lines_from (bytes ++ more))
+        ≡ (line ++ take n (b ∷ bytes)) ∷ lines_from (drop n (b ∷ bytes) ++ more) []
+    by_byte true end later e = rw (← some_same 1 n e) refl
+    by_byte false None later e = absurd (none-some n e)
+    by_byte false (Some m) later e =
+        rw (← some_same (suc m) n e)
+        (later m refl
+        ∙ ap (λ (xs : List ℕ). xs ∷ lines_from (drop m bytes ++ more) []) (append_assoc line (b ∷ []) (take m bytes)))
 
-some_same : {x y : ℕ} → ◌≡◌ {A = Option ℕ} (Some x) (Some y) → x ≡ y
-some_same e = cc
-
--- it is the one of the first bytes, whatever follows; and it lies within them
-end_first : (at n : ℕ) (bytes more : List ℕ) → end_after at bytes ≡ Some n → (end_after at (bytes ++ more) ≡ Some n) × (n ≤ at + length bytes)
-end_first at n [] more e = absurd (none-some n e)
-end_first at n (b ∷ bytes) more e = by_byte (eqb b 10) (end_first (at + 1) n bytes more) e
+-- without one it goes on
+pub line_goes_on :
+    (bytes more line : List ℕ) → line_end bytes ≡ None → lines_from (bytes ++ more) line ≡ lines_from more (line ++ bytes)
+unfolding lines_from
+line_goes_on [] more line e = ap (lines_from more) (sym (append-nil line))
+line_goes_on (b ∷ bytes) more line e =
+    by_byte (eqb b 10) (line_end bytes) (λ is. line_goes_on bytes more (line ++ (b ∷ [])) is) e
   where
     by_byte :
-        (found : Bool) →
-        (end_after (at + 1) bytes ≡ Some n → (end_after (at + 1) (bytes ++ more) ≡ Some n) × (n ≤ at + 1 + length bytes)) →
-        cond found (Some (at + 1)) (end_after (at + 1) bytes) ≡ Some n →
-        (cond found (Some (at + 1)) (end_after (at + 1) (bytes ++ more)) ≡ Some n) × (n ≤ at + suc (length bytes))
-    by_byte true later e = let q : at + 1 ≡ n = some_same e in (e, omega (arith, q))
-    by_byte false later e = ((later e).0, omega (arith, (later e).1))
-
--- counted from later on, it is as much later
-end_shifted : (k at n : ℕ) (bytes : List ℕ) → end_after at bytes ≡ Some n → end_after (k + at) bytes ≡ Some (k + n)
-end_shifted k at n [] e = absurd (none-some n e)
-end_shifted k at n (b ∷ bytes) e = by_byte (eqb b 10) (end_shifted k (at + 1) n bytes) e
-  where
-    by_byte :
-        (found : Bool) → (end_after (at + 1) bytes ≡ Some n → end_after (k + (at + 1)) bytes ≡ Some (k + n)) →
-        cond found (Some (at + 1)) (end_after (at + 1) bytes) ≡ Some n →
-        cond found (Some (k + at + 1)) (end_after (k + at + 1) bytes) ≡ Some (k + n)
-    by_byte true later e = let q : at + 1 ≡ n = some_same e in ap Some (omega (arith, q))
-    by_byte false later e = ap (λ (m : ℕ). end_after m bytes) (omega arith) ∙ later e
+        (found : Bool) (end : Option ℕ) →
+        (end ≡ None → lines_from (bytes ++ more) (line ++ (b ∷ [])) ≡ lines_from more ((line ++ (b ∷ [])) ++ bytes)) →
+        cond found (Some 1) (option_map suc end) ≡ None →
+        ended_if found (line ++ (b ∷ [])) (lines_from (bytes ++ more)) ≡ lines_from more (line ++ (b ∷ bytes))
+    by_byte true end later e = absurd (none-some 1 (sym e))
+    by_byte false None later e = later refl ∙ ap (lines_from more) (append_assoc line (b ∷ []) bytes)
+    by_byte false (Some m) later e = absurd (none-some (suc m) (sym e))
 
 -- the held bytes of a line go on as the line does
 held_on : (line bytes : List ℕ) → take 22 (take 22 line ++ bytes) ≡ take 22 (line ++ bytes)
@@ -79,117 +100,166 @@ held_on line bytes =
     ∙ sym (take-append-le 22 line bytes long))
     (cases_lt (length line) 22)
 
--- a line that ended later than it began
-module _ (line rest more : List ℕ) (n : ℕ) (open' : line_end line ≡ None) (ends : line_end rest ≡ Some n) where
-  abbrev pub whole : List ℕ
-  whole = line ++ (rest ++ more)
+-- a line whose end came with some bytes, and was taken
+module _ (line rest more : List ℕ) (n : ℕ) (ends : line_end rest ≡ Some n) where
+  abbrev pub next : Run → List Row
+  next = rows_of (lines_of (drop n rest ++ more))
 
-  within : n ≤ length rest
-  within = omega (arith, (end_first 0 n rest more ends).1)
+  tells_line :
+      (run : Run) (held : List ℕ) → held ≡ take 22 (take 22 line ++ first_bytes rest) →
+      rows_of (lines_from (rest ++ more) line) run ≡ row_of run held ∷ rows_after next (row_of run held)
+  unfolding rows_of
+  tells_line run held same =
+      let whole = line ++ take n rest in
+      let row_is : row_of run whole ≡ row_of run held =
+      sym (same_row run whole)
+      ∙ ap (row_of run)
+      (sym (held_on line (take n rest))
+      ∙ ap (λ (o : Option ℕ). take 22 (take 22 line ++ up_to rest o)) (sym ends)
+      ∙ sym same) in
+      ap (λ (lines : List (List ℕ)). rows_of lines run) (line_ends rest more line n ends)
+      ∙ ap (λ (row : Row). row ∷ rows_after next row) row_is
 
-  end_is : line_end whole ≡ Some (length line + n)
-  end_is =
-      end_later 0 line (rest ++ more) open'
-      ∙ ap (λ (k : ℕ). end_after k (rest ++ more)) (omega arith)
-      ∙ end_shifted (length line) 0 n (rest ++ more) (end_first 0 n rest more ends).0
-
-  first_is : first_bytes whole ≡ line ++ first_bytes rest
-  first_is =
-      ap (up_to whole) end_is
-      ∙ take-append-add line (rest ++ more) n
-      ∙ ap (λ (xs : List ℕ). line ++ xs) (take-append-le n rest more within)
-      ∙ ap (λ (o : Option ℕ). line ++ up_to rest o) (sym ends)
-
-  rest_is : rest_after whole ≡ drop n rest ++ more
-  rest_is = ap (past whole) end_is ∙ drop-append-add line (rest ++ more) n ∙ drop-append-le n rest more within
-
-  -- the print of what follows, by what follows
-  abbrev pub next : Run → List ℕ
-  next run = print_of_lines run (drop n rest ++ more)
-
-  by_bytes : (bytes : List ℕ) (k : ℕ) (run : Run) → line_end bytes ≡ Some k → print_of_lines run bytes ≡ print_line (λ r. print_of_lines r (rest_after bytes)) run (line_done run (first_bytes bytes))
-  by_bytes [] k run e = absurd (none-some k e)
-  by_bytes (b ∷ bytes) k run e = one_line b bytes run
-
-  pub prints_line : (run : Run) (held : List ℕ) → held ≡ take 22 (take 22 line ++ first_bytes rest) → print_of_lines run whole ≡ print_line next run (line_done run held)
-  prints_line run held same =
-      by_bytes whole (length line + n) run end_is
-      ∙ ap (λ (xs : List ℕ). print_line (λ r. print_of_lines r xs) run (line_done run (first_bytes whole))) rest_is
-      ∙ ap (λ (xs : List ℕ). print_line next run (line_done run xs)) first_is
-      ∙ ap (print_line next run)
-      (sym (same_done run (line ++ first_bytes rest)) ∙ ap (line_done run) (sym (held_on line (first_bytes rest)) ∙ sym same))
-
-  -- a held line that was taken
   module _ (f f' : Feed) (print print' : List ℕ) (same : held f.partial ≡ take 22 (take 22 line ++ first_bytes rest)) where
-    abbrev run : Run
-    run = run_of f.simulator
+    by_flow :
+        (flow : Flow) → Answers f print flow f' print' →
+        rows_of (lines_from (rest ++ more) line) (run_of f.simulator) ≡ held_row f ∷ unless_broken next (held_row f) flow
+    by_flow flow a =
+        tells_line (run_of f.simulator) (held f.partial) same
+        ∙ ap (λ (x : Flow). held_row f ∷ unless_broken next (held_row f) x) (sym a.flows)
 
-    abbrev done : Done
-    done = line_done run (held f.partial)
+    pub run_goes_on :
+        Answers f print (Continue tt) f' print' →
+        rows_of (lines_from (rest ++ more) line) (run_of f.simulator) ≡ held_row f ∷ next (run_of f'.simulator)
+    run_goes_on a = by_flow (Continue tt) a ∙ ap (λ (r : Run). held_row f ∷ next r) (sym a.takes.run)
 
-    by_stop : (stop : Bool) → Answers f print stop f' print' → print ++ print_of_lines run whole ≡ print' ++ print_rest next run done stop
-    by_stop stop a =
-        ap (λ (xs : List ℕ). print ++ xs) (prints_line run (held f.partial) same)
-        ∙ sym (append_assoc print (print_of run done) (print_rest next run done (stops done.answer)))
-        ∙ ap (λ (xs : List ℕ). xs ++ print_rest next run done (stops done.answer)) (sym a.prints)
-        ∙ ap (λ (b : Bool). print' ++ print_rest next run done b) (sym a.stops)
-
-    pub line_goes_on : Answers f print false f' print' → print ++ print_of_lines run whole ≡ print' ++ next (run_of f'.simulator)
-    line_goes_on a = by_stop false a ∙ ap (λ (r : Run). print' ++ next r) (sym a.run)
-
-    pub line_stops : Answers f print true f' print' → print ++ print_of_lines run whole ≡ print'
-    line_stops a = by_stop true a ∙ append-nil print'
-
--- bytes without a line feed have none however they are counted
-none_later : (k at : ℕ) (bytes : List ℕ) → end_after at bytes ≡ None → end_after (k + at) bytes ≡ None
-none_later k at [] e = refl
-none_later k at (b ∷ bytes) e = by_byte (eqb b 10) (none_later k (at + 1) bytes) e
-  where
-    by_byte :
-        (found : Bool) → (end_after (at + 1) bytes ≡ None → end_after (k + (at + 1)) bytes ≡ None) →
-        cond found (Some (at + 1)) (end_after (at + 1) bytes) ≡ None →
-        cond found (Some (k + at + 1)) (end_after (k + at + 1) bytes) ≡ None
-    by_byte true later e = absurd (none-some (at + 1) (sym e))
-    by_byte false later e = ap (λ (m : ℕ). end_after m bytes) (omega arith) ∙ later e
+    pub run_stops :
+        Answers f print (Break tt) f' print' →
+        rows_of (lines_from (rest ++ more) line) (run_of f.simulator) ≡ held_row f ∷ []
+    run_stops a = by_flow (Break tt) a
 
 -- bytes without a line feed are held
-module _ (partial partial' : Partial) (line rest : List ℕ) (pending : Pending partial line) (none : line_end rest ≡ None) where
-  pub still_pending : held partial' ≡ take 22 (held partial ++ first_bytes rest) → Pending partial' (line ++ rest)
-  still_pending holds =
-      record {
-        holds =
-            holds
-            ∙ ap (λ (xs : List ℕ). take 22 (xs ++ first_bytes rest)) pending.holds
-            ∙ ap (λ (o : Option ℕ). take 22 (take 22 line ++ up_to rest o)) none
-            ∙ held_on line rest;
-        goes_on =
-            end_later 0 line rest pending.goes_on
-            ∙ ap (λ (k : ℕ). end_after k rest) (omega arith)
-            ∙ none_later (length line) 0 rest none;
-      }
+pub still_holds :
+    (partial partial' : Partial) (line rest : List ℕ) → Holds partial line → line_end rest ≡ None →
+    held partial' ≡ take 22 (held partial ++ first_bytes rest) → Holds partial' (line ++ rest)
+still_holds partial partial' line rest holds none filled =
+    filled
+    ∙ ap (λ (xs : List ℕ). take 22 (xs ++ first_bytes rest)) holds
+    ∙ ap (λ (o : Option ℕ). take 22 (take 22 line ++ up_to rest o)) none
+    ∙ held_on line rest
 
 -- the last line
-nothing_follows : (r : Run) (d : Done) (stop : Bool) → print_rest (λ x. print_of_lines x []) r d stop ≡ []
-unfolding print_from
-nothing_follows r d true = refl
-nothing_follows r d false = refl
+nothing_follows : (row : Row) (flow : Flow) → unless_broken (rows_of []) row flow ≡ []
+unfolding rows_of
+nothing_follows row (Break done) = refl
+nothing_follows row (Continue done) = refl
 
-module _ (f f' : Feed) (print print' : List ℕ) (stop : Bool) (a : Answers f print stop f' print') where
-  abbrev last : List ℕ → Done
-  last line = line_done (run_of f.simulator) line
+pub last_row :
+    (run : Run) (partial : Partial) (line : List ℕ) → Holds partial line → (length (held partial) ≡ 0 → ⊥) →
+    row_of run (held partial) ∷ [] ≡ rows_of (lines_from [] line) run
+unfolding lines_from rows_of
+last_row run partial [] holds some = absurd (some (ap length holds))
+last_row run partial (b ∷ bytes) holds some =
+    let row = row_of run (b ∷ bytes) in
+    ap (λ (x : Row). x ∷ []) (ap (row_of run) holds ∙ same_row run (b ∷ bytes))
+    ∙ sym (ap (λ (rows : List Row). row ∷ rows) (nothing_follows row (flow_after row.done.answer)))
 
-  pub last_line : (line : List ℕ) → Pending f.partial line → (length (held f.partial) ≡ 0 → ⊥) → print ++ print_of_lines (run_of f.simulator) line ≡ print'
-  last_line [] pending some = absurd (some (ap length pending.holds))
-  last_line (b ∷ bytes) pending some =
-      ap (λ (xs : List ℕ). print ++ xs)
-      (one_line b bytes (run_of f.simulator)
-      ∙ ap (λ (o : Option ℕ). print_line (λ r. print_of_lines r (past (b ∷ bytes) o)) (run_of f.simulator) (last (up_to (b ∷ bytes) o))) pending.goes_on
-      ∙ ap (λ (xs : List ℕ). print_of (run_of f.simulator) (last (b ∷ bytes)) ++ xs) (nothing_follows (run_of f.simulator) (last (b ∷ bytes)) (stops (last (b ∷ bytes)).answer))
-      ∙ append-nil (print_of (run_of f.simulator) (last (b ∷ bytes)))
-      ∙ ap (print_of (run_of f.simulator)) (sym (same_done (run_of f.simulator) (b ∷ bytes)) ∙ ap last (sym pending.holds)))
-      ∙ sym a.prints
+pub no_row :
+    (run : Run) (partial : Partial) (line : List ℕ) → Holds partial line → length (held partial) ≡ 0 →
+    [] ≡ rows_of (lines_from [] line) run
+unfolding lines_from rows_of
+no_row run partial [] holds none = refl
+no_row run partial (b ∷ bytes) holds none =
+    absurd (let e : length (take 22 (b ∷ bytes)) ≡ 0 = sym (ap length holds) ∙ none in omega (arith, e))
 
-pub nothing_held : (f : Feed) (print line : List ℕ) → Pending f.partial line → length (held f.partial) ≡ 0 → print ++ print_of_lines (run_of f.simulator) line ≡ print
-unfolding print_from
-nothing_held f print [] pending none = append-nil print
-nothing_held f print (b ∷ bytes) pending none = absurd (let e : length (take 22 (b ∷ bytes)) ≡ 0 = sym (ap length pending.holds) ∙ none in omega (arith, e))
+-- no line is taken
+pub takes_none : (s : Simulator) (print : List ℕ) → Takes s print [] s print
+takes_none s print =
+    record {
+      run = refl;
+      prints = sym (append-nil print);
+      serves = λ turns served. subst (λ (xs : List Turn). RunServed s.stage xs) (sym (append-nil turns)) served;
+    }
+
+-- one line is taken
+added_is : (turns : List Turn) (turn : Option Turn) → added turns turn ≡ turns ++ cons_option turn []
+added_is turns None = sym (append-nil turns)
+added_is turns (Some turn) = refl
+
+pub takes_one :
+    (s s' : Simulator) (line print columns : List ℕ) (answer : Result Answer Denial) →
+    ◌≡◌ {A = Taken} (record { answer = answer; run = run_of s'; print = columns })
+    (taken_by (run_of s) line (replicate 34 0)) →
+    Extends (RunServed s.stage) (turn_in line answer) (RunServed s'.stage) →
+    Takes s print (row_of (run_of s) line ∷ []) s' (print ++ columns)
+takes_one s s' line print columns answer took serves =
+    let row = row_of (run_of s) line in
+    record {
+      run = ap (λ (t : Taken). t.run) took;
+      prints = ap (λ (t : Taken). print ++ t.print) took;
+      serves =
+          λ turns served. subst (λ (xs : List Turn). RunServed s'.stage xs)
+          (ap (λ (x : Result Answer Denial). added turns (turn_in line x)) (ap (λ (t : Taken). t.answer) took)
+          ∙ added_is turns (turn_of row))
+          (serves turns served);
+    }
+
+-- lines are taken, and then more
+after-append : (run : Run) (rows more : List Row) → last_run run (rows ++ more) ≡ last_run (last_run run rows) more
+after-append run [] more = refl
+after-append run (row ∷ rows) more = after-append (run_after row) rows more
+
+pub takes_more :
+    {s t u : Simulator} {print print' print'' : List ℕ} {rows more : List Row} → Takes s print rows t print' →
+    Takes t print' more u print'' → Takes s print (rows ++ more) u print''
+takes_more {s} {t} {u} {print} {print'} {print''} {rows} {more} first second =
+    record {
+      run =
+          second.run
+          ∙ ap (λ (r : Run). last_run r more) first.run
+          ∙ sym (after-append (run_of s) rows more);
+      prints =
+          second.prints
+          ∙ ap (λ (xs : List ℕ). xs ++ flat_map print_of more) first.prints
+          ∙ append_assoc print (flat_map print_of rows) (flat_map print_of more)
+          ∙ ap (λ (xs : List ℕ). print ++ xs) (sym (flat_map-append print_of rows more));
+      serves =
+          λ turns served. subst (λ (xs : List Turn). RunServed u.stage xs)
+          (append_assoc turns (filter_map turn_of rows) (filter_map turn_of more)
+          ∙ ap (λ (xs : List Turn). turns ++ xs) (sym (filter_map-append turn_of rows more)))
+          (second.serves (turns ++ filter_map turn_of rows) (first.serves turns served));
+    }
+
+-- a whole file that is read as one piece
+module _ (memory file print : List ℕ) (f : Feed) (begun : IsBegun memory f) where
+  abbrev pub Printed : List ℕ → Type 0
+  Printed print' = (print' ≡ print ++ print_of_file memory file) × FileServed memory file
+
+  printed :
+      (rows : List Row) (s : Simulator) (print' : List ℕ) → rows_of (lines_of (file ++ [])) (run_of f.simulator) ≡ rows →
+      Takes f.simulator print rows s print' → Printed print'
+  printed rows s print' all takes =
+      let same : rows ≡ rows_of (lines_of file) (begun_run memory) =
+      sym all
+      ∙ ap (λ (xs : List ℕ). rows_of (lines_of xs) (run_of f.simulator)) (append-nil file)
+      ∙ ap (rows_of (lines_of file)) begun.run in (
+        takes.prints ∙ ap (λ (x : List Row). print ++ flat_map print_of x) same,
+        record {
+          stage = s.stage;
+          comes_to = ap (λ (r : Run). r.view) (takes.run ∙ ap (λ (r : Run). last_run r rows) begun.run ∙ ap (last_run (begun_run memory)) same);
+          served =
+              subst (λ (x : List Row). RunServed s.stage (filter_map turn_of x)) same (takes.serves [] begun.served);
+        },
+      )
+
+  pub file_ends :
+      (f'' : Feed) {f' : Feed} {print' print'' : List ℕ} → GoesOn f file print f' [] print' → Ends f' print' f'' print'' →
+      Printed print''
+  file_ends f'' {f'} {print'} {print''} goes_on ends =
+      let read = goes_on [] begun.holds in
+      printed _ f''.simulator print'' (read.splits []) (takes_more read.takes (ends read.unended read.holds))
+
+  pub file_stops : {f' : Feed} {print' : List ℕ} → Stops f file print f' print' → Printed print'
+  file_stops {f'} {print'} stops =
+      let read = stops [] begun.holds in
+      printed read.rows f'.simulator print' (read.all []) read.takes

@@ -1,9 +1,8 @@
 pub mod Bytes
-pub mod Clearing
 pub mod Enough
 pub mod Exact
 pub mod Feeds
-pub mod Files
+pub mod Histories
 pub mod Justified
 pub mod Powers
 pub mod Spelled

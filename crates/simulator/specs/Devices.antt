@@ -1,5 +1,6 @@
 -- The disks that a request file may choose, by what a disk means.
-use Rattle.std.specs.Prelude.{ℕ, ◌-◌, ◌*◌, Bool, cond, ◌&&◌, List, [], ◌∷◌, Some, None, Option, ◌==◌, nat_le, nat_lt, replicate, refl, slice_set}
+use Rattle.std.specs.Prelude.{ℕ, ◌-◌, ◌*◌, Bool, cond, ◌&&◌, List, [], ◌∷◌, Some, None, Option, ◌==◌, nat_le, nat_lt, refl, slice_set}
+use Rattle.std.specs.List.{fold}
 use Rattle.disk.specs.Devices.{faithful, torn_disk, torn, memory_moves, write_through, latest_write}
 use Rattle.disk.specs.Meaning.{Meaning, Shaped, count}
 use Rattle.disk.specs.Memory.{IsSize, sectors}
@@ -62,16 +63,6 @@ make_for number = cond (number == 0) (Some AFaithful) (cond (number == 1) (Some 
 abbrev pub room : ℕ → ℕ → Bool
 room bytes sectors = nat_le 10 sectors && (nat_le sectors 2048 && nat_le (32 * sectors) bytes)
 
--- a disk that is new: so many sectors of zeros, all of them kept, and a supply of 1,000,000
-abbrev pub cleared : ℕ → Meaning
-cleared n =
-    record {
-      reading = replicate n (replicate 32 0);
-      kept = replicate n (replicate 32 0);
-      supply = 1000000;
-      beyond = [];
-    }
-
 -- the two disks exactly. A write: the faithful disk keeps it at once; the torn disk keeps what it read before, and holds the
 -- write back
 abbrev pub kept_by_write : Make → Meaning → ℕ → List ℕ → List (List ℕ)
@@ -119,5 +110,4 @@ after_try make m (settle i) = cond (succeeds m i) (settled m) m
 
 -- a disk after operations that are tried, one after the other
 unfoldable pub after_tries : Make → Meaning → List Op → Meaning
-after_tries make m [] = m
-after_tries make m (op ∷ ops) = after_tries make (after_try make m op) ops
+after_tries make m ops = fold (after_try make) m ops

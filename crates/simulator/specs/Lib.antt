@@ -1,9 +1,11 @@
 pub mod Answers
+pub mod Calls
 pub mod Columns
 pub mod Devices
 pub mod Feeds
 pub mod Field
 pub mod Files
+pub mod Histories
 pub mod Kinds
 pub mod Lines
 pub mod Print

@@ -6,10 +6,11 @@ use Rattle.disk.specs.Meaning.{Meaning}
 use Rattle.kind.specs.Meaning.{Numbering}
 use Rattle.ring.specs.Operations.{tried, outcome}
 use Rattle.ring.specs.Ring.{plan, known}
-use Rattle.ring.specs.Search.{refusal}
+use Rattle.ring.specs.Search.{reservation, refusal}
+use Rattle.ring.specs.Token.{block_in}
 use Rattle.ring.specs.declared.fault.RingFault.{RingFault}
 use Rattle.ring.specs.declared.token.Reserved.{Reserved}
-use Rattle.server.specs.Rules.{block_in, with_ring, one, Range, Wish, declines, draws, decide, end_at, next_at, drawn, identified, stopped}
+use Rattle.server.specs.Rules.{with_ring, one, Range, Wish, declines, draws, decide, end_at, next_at, drawn, identified, stopped}
 use Rattle.server.specs.declared.fault.ServerFault.{ServerFault}
 use Rattle.server.specs.declared.fault.ServerFault.TheVariants.{Down as WasDown, Ring as OfRing}
 use Rattle.server.specs.declared.state.State.{State}
@@ -44,7 +45,7 @@ reserved_by make u m s first n end given (Some fault) =
 reserved_by make u m s first n end given None =
     after_reserving u s first n given
     (after_tries make m (tried u.ring.format (plan u.ring.format 7 s end m.reading) m.supply))
-    (outcome (record { series = s; end = record { 0 = end } }) (plan u.ring.format 7 s end m.reading) m.supply)
+    (outcome (reservation u.ring.format m.reading s (record { 0 = end })) (plan u.ring.format 7 s end m.reading) m.supply)
 
 -- a call on a server that is up, by what it wants
 abbrev pub decided : {A : Type 0} → (ℕ → ℕ → ℕ → Option Range → A) → Make → Up → Meaning → Wish → LeftBy A

@@ -1,5 +1,6 @@
 -- What a request line does: what it is answered, and the stage after it.
 use Rattle.std.specs.Prelude.{ℕ, ◌*◌, min, cond, List, length, drop, Some, None, Ok, Err, Option, Result}
+use Rattle.disk.specs.Blank.{cleared}
 use Rattle.disk.specs.Meaning.{Meaning}
 use Rattle.kind.specs.Serial.{serial_kind_of}
 use Rattle.kind.specs.Time.{lease_of, correction_of, time_kind_of}
@@ -14,7 +15,7 @@ use Rattle.ring.specs.Ring.{recovered}
 use Rattle.server.specs.Rules.{format, woken, top_told}
 use Rattle.server.specs.declared.fault.ServerFault.{ServerFault}
 use Rattle.server.specs.declared.state.State.{State}
-use Rattle.simulator.specs.Devices.{cleared, make_for, room, cut_by}
+use Rattle.simulator.specs.Devices.{meaning_of, make_of, make_for, room, cut_by}
 use Rattle.simulator.specs.Kinds.{numbering_of}
 use Rattle.simulator.specs.Request.{command_in, fields_in}
 use Rattle.simulator.specs.Requests.{LeftBy, given_by}
@@ -25,6 +26,7 @@ use Rattle.simulator.specs.declared.answer.Denial.{Denial}
 use Rattle.simulator.specs.declared.answer.Denial.TheVariants.{Malformed, Ended, Size, NoDevice, Setting, NotGiven, NotWoken}
 use Rattle.simulator.specs.declared.any_kind.AnyKind.{AnyKind}
 use Rattle.simulator.specs.declared.any_kind.AnyKind.TheVariants as kind
+use Rattle.simulator.specs.declared.device.Device.{Device}
 use Rattle.simulator.specs.declared.device.Make.{Make}
 use Rattle.simulator.specs.declared.request.Command.{Command}
 use Rattle.simulator.specs.declared.request.Command.TheVariants.{Disk, Serial, Time, Box, Give, Cut}
@@ -37,6 +39,11 @@ pub record Done : Type 0 where
   pub answer : Result Answer Denial
   pub after : View
 
+-- the same of a stage with a server
+abbrev pub done_on : Result Answer Denial → AnyKind → State → Device → List ℕ → Done
+done_on answer kind state disk spare =
+    record { answer = answer; after = runs (make_of disk) kind state (meaning_of disk) spare }
+
 -- a line that is denied
 abbrev pub denied : Denial → View → Done
 denied denial v = record { answer = Err denial; after = v }
@@ -45,10 +52,10 @@ denied denial v = record { answer = Err denial; after = v }
 abbrev pub set_up : View → Done
 set_up v = record { answer = Ok Set; after = v }
 
--- the device: the first 32 bytes for each sector are cleared, and the rest of the memory is spare
+-- the device: the first 32 bytes for each sector are cleared, the rest of the memory is spare, and the supply is 1,000,000
 abbrev pub with_make : List ℕ → ℕ → Option Make → Done
 with_make memory n None = denied NoDevice (awaits_disk memory)
-with_make memory n (Some make) = set_up (awaits_kind make (cleared n) (drop (32 * n) memory))
+with_make memory n (Some make) = set_up (awaits_kind make (cleared n 1000000) (drop (32 * n) memory))
 
 -- a sector count that is out of range, or a memory that is too short, is told ahead of a device that is not there
 abbrev pub opened : List ℕ → Fields → Done
@@ -131,7 +138,7 @@ asked (runs make kind state m spare) (Some Give) fields =
     by_fields (runs make kind state m spare) (requested make kind state m spare) (fields Give)
 asked (runs make kind state m spare) (Some Cut) fields =
     by_fields (runs make kind state m spare) (cut_off make kind m spare) (fields Cut)
-asked (has_ended memory) command fields = denied Ended (has_ended memory)
+asked (has_ended kind memory) command fields = denied Ended (has_ended kind memory)
 asked v command fields = unlawful v
 
 -- a line that is taken at a stage: what it is answered, and the stage after it

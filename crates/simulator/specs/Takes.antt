@@ -1,6 +1,9 @@
 -- The call of the simulator: what it answers, and what it leaves of the run, of the memory and of the print line.
-use Rattle.std.specs.Prelude.{ℕ, ◌+◌, ◌-◌, ◌^◌, min, cond, List, [], ◌++◌, length, drop, Ok, Err, Result, nat_le}
+use Rattle.std.specs.Prelude.{ℕ, ◌+◌, ◌-◌, ◌^◌, min, cond, List, [], ◌++◌, length, drop, Ok, Err, Option, Result, nat_le}
+use Rattle.history.specs.declared.calls.Call.{Call}
+use Rattle.history.specs.declared.calls.Turn.{Turn}
 use Rattle.simulator.specs.Answers.{ends, columns_of}
+use Rattle.simulator.specs.Calls.{answer_in, call_in, turn_by}
 use Rattle.simulator.specs.Print.{printed}
 use Rattle.simulator.specs.Stages.{View, view, closed}
 use Rattle.simulator.specs.Steps.{Done, denied, step_of}
@@ -44,17 +47,31 @@ pub record Run : Type 0 where
 abbrev pub run_of : Simulator → Run
 run_of s = record { view = view s.stage; taken = s.taken }
 
--- what a line does of a run: it counts
-abbrev pub line_done : Run → List ℕ → Done
-line_done run line = ended_by (numbered (counted run.taken) run.view line)
+-- a line that a run takes: its number, the call that it asks for, and what it does
+pub record Row : Type 0 where
+  pub number : ℕ
+  pub call : Option Call
+  pub done : Done
 
--- the run after a line
-abbrev pub run_after : Run → Done → Run
-run_after run done = record { view = done.after; taken = counted run.taken }
+abbrev pub row_of : Run → List ℕ → Row
+row_of run line =
+    record {
+      number = counted run.taken;
+      call = call_in line;
+      done = ended_by (numbered (counted run.taken) run.view line);
+    }
 
--- the print line of a line
-abbrev pub print_of : Run → Done → List ℕ
-print_of run done = printed (shown_number (counted run.taken)) (columns_of done.answer)
+-- the run after it
+abbrev pub run_after : Row → Run
+run_after row = record { view = row.done.after; taken = row.number }
+
+-- its print line
+abbrev pub print_of : Row → List ℕ
+print_of row = printed (shown_number row.number) (columns_of row.done.answer)
+
+-- the call that was made for it, with its answer
+abbrev pub turn_of : Row → Option Turn
+turn_of row = turn_by (answer_in row.done.answer) row.call
 
 -- a call of the simulator: what it answers, and what it leaves of the run and of the print line
 pub record Taken : Type 0 where
@@ -62,16 +79,16 @@ pub record Taken : Type 0 where
   pub run : Run
   pub print : List ℕ
 
--- a line that is taken: its answer is written into the first 34 bytes of the print line
-abbrev pub as_done : Run → List ℕ → Done → Taken
-as_done run print done =
-    record { answer = done.answer; run = run_after run done; print = print_of run done ++ drop 34 print }
+-- a line that is taken: it is printed into the first 34 bytes of the print line
+abbrev pub as_row : List ℕ → Row → Taken
+as_row print row =
+    record { answer = row.done.answer; run = run_after row; print = print_of row ++ drop 34 print }
 
 -- a print line of fewer than 34 bytes is denied ahead of all else, and nothing changes
 abbrev pub taken_by : Run → List ℕ → List ℕ → Taken
 taken_by run line print =
     cond (nat_le 34 (length print))
-    (as_done run print (line_done run line))
+    (as_row print (row_of run line))
     (record { answer = Err ShortPrint; run = run; print = print })
 
 -- the very bytes of the memory of a disk

@@ -1,12 +1,13 @@
 // The disks that a request file may choose.
-ghost use Rattle.std.specs.Prelude.{◌≡◌, T, ◌*◌, ◌≤◌, length, drop, replicate, MatchResult, OnOk};
+ghost use Rattle.std.specs.Prelude.{◌≡◌, T, ◌*◌, ◌≤◌, length, drop, MatchResult, OnOk};
 ghost use Rattle.disk.specs.Meaning.{answer_of, Wrote, Flushed, Cut};
+ghost use Rattle.disk.specs.Blank.{WithoutRecords, cleared};
 ghost use Rattle.disk.specs.Devices.{memory_disk};
 ghost use Rattle.disk.specs.Memory.{right_size};
 ghost use Rattle.disk.specs.declared.fault.Operation.TheVariants.{Write, Flush};
-ghost use Rattle.simulator.specs.Devices.{meaning_of, device_moves, shaped, sized, make_of, room, cleared, written, settled, cut_by};
+ghost use Rattle.simulator.specs.Devices.{meaning_of, device_moves, shaped, sized, make_of, room};
 
-use disk::{Disk, DiskFault, FaithfulDisk, HoldBack, MemoryDisk, TornDisk};
+use disk::{Disk, DiskFault, FaithfulDisk, HoldBack, MemoryDisk, TornDisk, blank_disk};
 use record::SECTOR_BYTES;
 
 // Which disk it is. The trials have such an enum of their own: neither crate has need of the other.
@@ -72,13 +73,13 @@ impl Disk for Device<'_> {
     }
 }
 
-// A new disk over all of a memory that is cleared.
-fn cleared_disk<'a, H: HoldBack>(memory: &'a mut [u8], sectors: usize) -> MemoryDisk<'a, H>
-    requires size { T (right_size (length memory.old) sectors) }
-    requires zeros { memory.old ≡ replicate (32 * sectors) 0 }
-    ensures { memory_disk H.holding.before result ≡ cleared sectors }
+// A disk without records over all of a memory.
+fn new_disk<'a, H: HoldBack>(memory: &'a mut [u8], sectors: usize) -> MemoryDisk<'a, H>
+    requires { T (right_size (length memory.old) sectors) }
+    ensures cleared { memory_disk H.holding.before result ≡ cleared sectors 1000000 }
+    ensures without { WithoutRecords (memory_disk H.holding.before result) }
 {
-    let Ok(disk) = MemoryDisk::new(memory, sectors, FIRST_SUPPLY) else {
+    let Ok(disk) = blank_disk(memory, sectors, FIRST_SUPPLY) else {
         unreachable()
     };
     disk
@@ -86,14 +87,14 @@ fn cleared_disk<'a, H: HoldBack>(memory: &'a mut [u8], sectors: usize) -> Memory
 
 // A new disk of the make that is asked for.
 fn over<'a>(make: Make, memory: &'a mut [u8], sectors: usize) -> Device<'a>
-    requires size { T (right_size (length memory.old) sectors) }
-    requires zeros { memory.old ≡ replicate (32 * sectors) 0 }
+    requires { T (right_size (length memory.old) sectors) }
     ensures make { make_of result ≡ make }
-    ensures cleared { meaning_of result ≡ cleared sectors }
+    ensures cleared { meaning_of result ≡ cleared sectors 1000000 }
+    ensures without { WithoutRecords (meaning_of result) }
 {
     match make {
-        Make::Faithful => Device::Faithful(cleared_disk(memory, sectors)),
-        Make::Torn => Device::Torn(cleared_disk(memory, sectors)),
+        Make::Faithful => Device::Faithful(new_disk(memory, sectors)),
+        Make::Torn => Device::Torn(new_disk(memory, sectors)),
     }
 }
 
@@ -106,7 +107,7 @@ fn split(memory: &mut [u8], count: usize) -> (&mut [u8], &mut [u8])
     memory.split_at_mut(count)
 }
 
-// Clears the first bytes of a memory for a disk of so many sectors. The bytes past them are handed back as they are.
+// A new disk of so many sectors over the first bytes of a memory. The bytes past them are handed back as they are.
 pub(crate) fn open<'a>(
     make: Make,
     memory: &'a mut [u8],
@@ -114,10 +115,10 @@ pub(crate) fn open<'a>(
 ) -> (Device<'a>, &'a mut [u8])
     requires { T (room (length memory.old) sectors) }
     ensures make { make_of result.0 ≡ make }
-    ensures cleared { meaning_of result.0 ≡ cleared sectors }
+    ensures cleared { meaning_of result.0 ≡ cleared sectors 1000000 }
+    ensures without { WithoutRecords (meaning_of result.0) }
     ensures spare { result.1.now ≡ drop (32 * sectors) memory.old }
 {
     let (front, spare) = split(memory, SECTOR_BYTES * sectors);
-    front.fill(0);
     (over(make, front, sectors), spare)
 }

@@ -7,6 +7,7 @@ mod device;
 mod feed;
 mod field;
 mod file;
+mod line;
 mod partial;
 mod print;
 mod request;

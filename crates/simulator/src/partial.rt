@@ -1,7 +1,7 @@
 // A line that is being read: what has to be held of it.
 ghost use Rattle.std.specs.Prelude.{◌≤◌};
 
-use crate::file::line_end;
+use crate::line::line_end;
 
 // A request line has 21 bytes. One byte more shows that a line is too long, and what follows tells nothing.
 const HELD_BYTES: usize = 22;

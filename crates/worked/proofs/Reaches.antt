@@ -1,5 +1,5 @@
 -- The worked history is reached: antt computes what each call answers and leaves.
-use Rattle.std.proofs.Common.{◌≡◌, ℕ, zero, suc, ◌+◌, ◌<◌, false, List, [], ◌∷◌, length, set, replicate, Some, None, Ok, Err, Result, sym, refl, ◌∙◌, subst, inl, arith, lit<, rules}
+use Rattle.std.proofs.Common.{◌≡◌, ℕ, zero, suc, ◌+◌, ◌<◌, false, List, [], ◌∷◌, length, set, replicate, Some, None, Option, Ok, Err, Result, sym, refl, ◌∙◌, subst, inl, arith, lit<, rules}
 use Rattle.record.specs.Crc.{crc, register, feed, shifts, shift}
 use Rattle.record.specs.Sector.{sound, little, content, encoded, body, bytes_of, parts, all_zero}
 use Rattle.record.specs.declared.sector.Format.{Format}
@@ -9,10 +9,10 @@ use Rattle.disk.specs.Tearing.{cut_by_tear}
 use Rattle.disk.specs.declared.torn.Held.{Held}
 use Rattle.kind.specs.Meaning.{LawfulKind}
 use Rattle.ring.specs.Left.{Recovers}
-use Rattle.disk.specs.Moves.{anything}
 use Rattle.ring.specs.Operations.{tried, performed, outcome}
 use Rattle.ring.specs.Ring.{slot, top, top_below, live, live_below, known, is_foreign, foreign_below, plan, Sized}
 use Rattle.ring.specs.Search.{Ended, refusal}
+use Rattle.ring.specs.Token.{empty_block, empty_blocks, with_block}
 use Rattle.ring.specs.declared.fault.RingFault.{RingFault}
 use Rattle.ring.specs.declared.ring.Ring.{Ring}
 use Rattle.ring.specs.declared.token.Reserved.{Reserved}
@@ -23,7 +23,7 @@ use Rattle.server.specs.declared.fault.ServerFault.{ServerFault}
 use Rattle.server.specs.declared.state.State.{State}
 use Rattle.server.specs.declared.state.State.TheVariants.{Up as Awake, Down}
 use Rattle.server.specs.declared.state.Up.{Up}
-use Rattle.worked.specs.Worked.{one_by_one, start, written, with_one, with_two, with_part, after_first, after_second, after_cut, after_third, stop, first, second, power_cut, WorkedHistory, TornInside}
+use Rattle.worked.specs.Worked.{one_by_one, start, written, with_one, with_two, with_part, after_first, after_second, after_cut, after_third, stop, first, second, power_cut, Torn, torn_meaning, torn_moves, cleared_torn, WorkedHistory, TornInside}
 
 -- the kind is lawful
 pub lawful : LawfulKind one_by_one
@@ -73,7 +73,11 @@ ring_of reading = record { format = f; known = known f reading }
 
 abbrev up_at : List (List ℕ) → ℕ → Up
 up_at reading n =
-    record { ring = ring_of reading; blocks = set (replicate 8 (record { next = record { 0 = 0 }; end = record { 0 = 0 } })) 2 (record { next = record { 0 = n }; end = record { 0 = n } }) }
+    record { ring = ring_of reading; blocks = with_block (empty_blocks (replicate 8 (record { 0 = 0 }))) 2 (empty_block (record { 0 = n })) }
+
+-- a reservation of series 2
+abbrev reserved : ℕ → ℕ → Reserved
+reserved from to = record { series = 2; start = record { 0 = from }; end = record { 0 = to } }
 
 sized : (reading : List (List ℕ)) → length reading ≡ 10 → Sized f reading
 sized reading e =
@@ -109,7 +113,7 @@ settles :
 settles m p e = record { reads = refl; keeps = refl; spends = e; leaves = refl }
 
 -- record 1 is written and flushed
-ended_first : Ended f 2 (record { 0 = 1 }) start (Ok (record { series = 2; end = record { 0 = 1 } })) (ring_of with_one) after_first
+ended_first : Ended f 2 (record { 0 = 1 }) start (Ok (reserved 0 1)) (ring_of with_one) after_first
 unfolding plan performed outcome live live_below top top_below foreign_below slot content sound little crc register feed shifts shift encoded body bytes_of parts all_zero
 ended_first =
     record {
@@ -119,12 +123,20 @@ ended_first =
       goes = (_, puts start 1 (written 1) 2 refl, (_, settles _ 1 refl, refl));
     }
 
-reached_first : Reached anything (λ m. m) one_by_one start (first ∷ []) (Awake (up_at with_one 1)) after_first
+-- the torn disk with sectors that are read, a write held back, and a supply
+abbrev torn_at : List (List ℕ) → Option Held → ℕ → Torn
+torn_at reading held supply = record { reading = reading; beyond = []; held = held; supply = supply }
+
+-- a write that is held back: its sector, where zeros were
+abbrev holds : ℕ → Option Held
+holds i = Some (record { sector = i; old = replicate 32 0 })
+
+reached_first : Reached torn_moves torn_meaning one_by_one cleared_torn (first ∷ []) (Awake (up_at with_one 1)) (torn_at with_one None 1)
 unfolding plan tried live live_below top top_below foreign_below slot content sound little crc register feed shifts shift encoded body bytes_of parts all_zero
 reached_first =
-    gave {d' = after_first} {s = 2} {reading = record { 0 = 0 }} begun
-    (reserving_by (ring_of with_one) (Ok (record { series = 2; end = record { 0 = 1 } })) refl ended_first (refl, refl))
-    (after_first, tt, (after_first, tt, refl))
+    gave {d' = torn_at with_one None 1} {s = 2} {reading = record { 0 = 0 }} begun
+    (reserving_by (ring_of with_one) (Ok (reserved 0 1)) refl ended_first (refl, refl))
+    (torn_at with_one (holds 1) 2, refl, (torn_at with_one None 1, refl, refl))
 
 -- record 2 is written, and its flush goes dark
 ended_second : Ended f 2 (record { 0 = 2 }) after_first (Err stop) (ring_of with_two) after_second
@@ -137,12 +149,12 @@ ended_second =
       goes = (_, puts after_first 2 (written 2) 0 refl, refl);
     }
 
-reached_second : Reached anything (λ m. m) one_by_one start (second ∷ first ∷ []) (Down stop) after_second
+reached_second : Reached torn_moves torn_meaning one_by_one cleared_torn (second ∷ first ∷ []) (Down stop) (torn_at with_two (holds 2) 0)
 unfolding plan tried live live_below top top_below foreign_below slot content sound little crc register feed shifts shift encoded body bytes_of parts all_zero
 reached_second =
-    gave {d' = after_second} {s = 2} {reading = record { 0 = 0 }} reached_first
+    gave {d' = torn_at with_two (holds 2) 0} {s = 2} {reading = record { 0 = 0 }} reached_first
     (reserving_by (ring_of with_two) (Err stop) refl ended_second (refl, refl))
-    (after_second, tt, (after_second, tt, refl))
+    (torn_at with_two (holds 2) 0, refl, (torn_at with_two (holds 2) 0, refl, refl))
 
 -- the cut leaves what a torn disk leaves: the first 20 bytes of record 2
 pub torn_inside : TornInside
@@ -158,12 +170,12 @@ cut_left =
     (λ (left : List (List ℕ)). Cut (record { reading = with_two; kept = before (Some half) with_two; supply = 0; beyond = [] }) 9 (record { reading = left; kept = left; supply = 9; beyond = [] }))
     torn_inside.0 (cut_by_tear (Some half) 20 0 9 with_two [])
 
-reached_cut : Reached anything (λ m. m) one_by_one start (power_cut ∷ second ∷ first ∷ []) (Awake (up_at with_part 1)) after_cut
+reached_cut : Reached torn_moves torn_meaning one_by_one cleared_torn (power_cut ∷ second ∷ first ∷ []) (Awake (up_at with_part 1)) (torn_at with_part None 9)
 unfolding plan tried live live_below top top_below foreign_below slot content sound little crc register feed shifts shift encoded body bytes_of parts all_zero
-reached_cut = was_cut reached_second (record { left = cut_left; state = refl; told = refl }) tt
+reached_cut = was_cut reached_second (record { left = cut_left; state = refl; told = refl }) refl
 
 -- record 2 is written and flushed
-ended_third : Ended f 2 (record { 0 = 2 }) after_cut (Ok (record { series = 2; end = record { 0 = 2 } })) (ring_of with_two) after_third
+ended_third : Ended f 2 (record { 0 = 2 }) after_cut (Ok (reserved 1 2)) (ring_of with_two) after_third
 unfolding plan performed outcome live live_below top top_below foreign_below slot content sound little crc register feed shifts shift encoded body bytes_of parts all_zero
 ended_third =
     record {
@@ -177,7 +189,8 @@ pub reached : WorkedHistory
 unfolding plan tried live live_below top top_below foreign_below slot content sound little crc register feed shifts shift encoded body bytes_of parts all_zero
 reached = (
   Awake (up_at with_two 2),
-  gave {d' = after_third} {s = 2} {reading = record { 0 = 0 }} reached_cut
-      (reserving_by (ring_of with_two) (Ok (record { series = 2; end = record { 0 = 2 } })) refl ended_third (refl, refl))
-      (after_third, tt, (after_third, tt, refl)),
+  torn_at with_two None 7,
+  gave {d' = torn_at with_two None 7} {s = 2} {reading = record { 0 = 0 }} reached_cut
+      (reserving_by (ring_of with_two) (Ok (reserved 1 2)) refl ended_third (refl, refl))
+      (torn_at with_two (Some (record { sector = 2; old = at with_part 2 })) 8, refl, (torn_at with_two None 7, refl, refl)),
 )

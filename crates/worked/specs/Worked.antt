@@ -1,19 +1,20 @@
 -- A history, call by call: a request, a request that a power cut stops in its reservation, the cut, and a request.
-use Rattle.std.specs.Prelude.{◌≡◌, ℕ, false, List, [], ◌∷◌, replicate, Some, Ok, Err, slice_set}
+use Rattle.std.specs.Prelude.{◌≡◌, ℕ, false, List, [], ◌∷◌, replicate, Some, None, Ok, Err, Option, slice_set}
 use Rattle.std.proofs.Common.{lit≤}
 use Rattle.record.specs.Sector.{sound, encoded}
 use Rattle.record.specs.declared.sector.Record.{Record}
-use Rattle.disk.specs.Devices.{mixture, left_sectors}
+use Rattle.disk.specs.Devices.{Stands, after_write, after_flush, after_cut as stands_after_cut, before, mixture, left_sectors, latest_write}
 use Rattle.disk.specs.Meaning.{Meaning, at, denied}
-use Rattle.disk.specs.Moves.{anything}
+use Rattle.disk.specs.Moves.{Moves}
 use Rattle.disk.specs.declared.fault.Cause.TheVariants.{Dark}
 use Rattle.disk.specs.declared.fault.Operation.TheVariants.{Flush}
+use Rattle.disk.specs.declared.torn.Held.{Held}
 use Rattle.kind.specs.Meaning.{Numbering}
 use Rattle.kind.specs.Serial.{serial_numbering}
 use Rattle.ring.specs.declared.fault.RingFault.{RingFault}
 use Rattle.ring.specs.declared.fault.RingFault.TheVariants.{Interrupted}
 use Rattle.ring.specs.declared.fault.Work.TheVariants.{Reservation}
-use Rattle.history.specs.History.{Event, request, cut, latest}
+use Rattle.history.specs.History.{Event, request, cut}
 use Rattle.history.specs.Promise.{Reached}
 use Rattle.server.specs.declared.fault.ServerFault.TheVariants.{Ring}
 use Rattle.server.specs.declared.state.State.{State}
@@ -87,9 +88,31 @@ third = request 2 (record { 0 = 0 }) (Ok (record { 0 = 2 })) after_third
 abbrev pub worked : List Event
 worked = third ∷ power_cut ∷ second ∷ first ∷ []
 
--- the calls make it
+-- a torn disk by all that there is to it, without the memory that it lies in: what it means, and what each call makes of it
+abbrev pub Torn : Type 0
+Torn = Stands (Option Held)
+
+abbrev pub torn_meaning : Torn → Meaning
+torn_meaning x =
+    record { reading = x.reading; kept = before x.held x.reading; supply = x.supply; beyond = x.beyond }
+
+abbrev pub torn_moves : Moves Torn
+torn_moves =
+    record {
+      writes = λ x i bytes x'. x' ≡ after_write latest_write x i bytes;
+      flushes = λ x i x'. x' ≡ after_flush latest_write x i;
+      cuts = λ x tear supply x'. x' ≡ stands_after_cut latest_write x tear supply;
+    }
+
+-- the torn disk that it begins with
+abbrev pub cleared_torn : Torn
+cleared_torn = record { reading = zeros 10; beyond = []; held = None; supply = 3 }
+
+-- the calls make it, on a torn disk, and the cut leaves of that disk what its tear leaves
 abbrev pub WorkedHistory : Type 0
-WorkedHistory = (state : State) × Reached anything (λ m. m) one_by_one start worked state (latest start worked)
+WorkedHistory =
+    (state : State) × (disk : Torn)
+    × Reached torn_moves torn_meaning one_by_one cleared_torn worked state disk
 
 -- the cut is inside the reservation: it leaves what a torn disk leaves at tear 20 that holds back the write of record 2, and the
 -- sector is blank

@@ -1,6 +1,7 @@
 -- Each turn is one of the search: it ends, goes on, or is stopped.
 use Rattle.std.proofs.Common.{sym, ap, arith}
 use Rattle.std.proofs.lemmas.Result.{err_from_is_err_and}
+use Rattle.ring.proofs.AnyRing.{found_to_carry, turn_unread, turn_carries, turn_stopped}
 use Rattle.ring.proofs.Chains.{chain_begins, chain_goes_on, chain_stops, chain_ends}
 use Rattle.ring.proofs.Searches.{search_begins}
 use Rattle.ring.proofs.Turns.{noted_since, carries_from, carries_less, turn_finds, turn_ends, turn_goes_on, turn_stops}
@@ -11,6 +12,7 @@ loop-content-init g c = (
   omega arith,
   λ may. search_begins _ _ _ may,
   λ may. chain_begins g.D.Disk.moves g.D.Disk.meaning c.args.self.now.format c.args.series c.args.disk.now,
+  λ value same answer r' after runs. runs,
 )
 
 pub loop-content-smaller : goal.loop-content-smaller
@@ -33,7 +35,7 @@ loop-content-preserved g c = (
       (ap (λ r. r.known) c.in_ok-carry-in-Some.ensures.effect.1.1),
   λ may.
       let search = c.loop-content.invariant.1 may in
-      let finds = turn_finds _ _ _ _ _ search may.numbers _ _ _ (ap (λ k. k.top.0) may.agrees.knows) c.in_ok-content.ensures c.in-Some.ensures.value in
+      let finds = turn_finds _ _ _ _ _ search may.numbers _ _ _ (ap (λ k. k.top.0) may.agrees.knows) c.in_ok-content.ensures.agrees c.in-Some.ensures.value in
       turn_goes_on _ _ _ _ _ search may.numbers c.in-Some.entry finds _
       c.in_ok-carry-in-Some.ensures.effect.0
       _
@@ -41,13 +43,17 @@ loop-content-preserved g c = (
       c.in_ok-carry-in-Some.ensures.effect.2,
   λ may.
       let search = c.loop-content.invariant.1 may in
-      let finds = turn_finds _ _ _ _ _ search may.numbers _ _ _ (ap (λ k. k.top.0) may.agrees.knows) c.in_ok-content.ensures c.in-Some.ensures.value in
+      let finds = turn_finds _ _ _ _ _ search may.numbers _ _ _ (ap (λ k. k.top.0) may.agrees.knows) c.in_ok-content.ensures.agrees c.in-Some.ensures.value in
       chain_goes_on g.D.Disk.moves g.D.Disk.meaning _ _ c.args.disk.now _ _ search may.numbers (c.loop-content.invariant.2 may)
       c.in-Some.entry finds _
       c.carry.ensures.moves
       _ _
       c.in_ok-carry-in-Some.ensures.effect.1
       c.in_ok-carry-in-Some.ensures.effect.2,
+  turn_carries g.D.Disk.moves g.D.Disk.meaning _ _ _ _ _ _ c.loop-content.invariant.3 c.in-Some.entry
+      (found_to_carry _ _ _ _ _ _ c.in_ok-content.ensures.looks c.in-Some.ensures.value)
+      _ _
+      c.in_ok-carry-in-Some.ensures.appends,
 )
 
 pub returns-in_err-carry-in-Some : goal.returns-in_err-carry-in-Some
@@ -57,7 +63,8 @@ returns-in_err-carry-in-Some g c =
       gap = rw p.1 tt;
       search = λ may.
           let search = c.loop-content.invariant.1 may in
-          let finds = turn_finds _ _ _ _ _ search may.numbers _ _ _ (ap (λ k. k.top.0) may.agrees.knows) c.in_ok-content.ensures c.in-Some.ensures.value in
+          let finds =
+          turn_finds _ _ _ _ _ search may.numbers _ _ _ (ap (λ k. k.top.0) may.agrees.knows) c.in_ok-content.ensures.agrees c.in-Some.ensures.value in
           rw (p.1, p.2)
           (turn_stops _ _ _ _ _ search may.numbers c.in-Some.entry finds
           c.in_err-carry-in-Some.field-0.0 _ _
@@ -65,13 +72,22 @@ returns-in_err-carry-in-Some g c =
           c.in_err-carry-in-Some.ensures.effect);
       moves = λ may.
           let search = c.loop-content.invariant.1 may in
-          let finds = turn_finds _ _ _ _ _ search may.numbers _ _ _ (ap (λ k. k.top.0) may.agrees.knows) c.in_ok-content.ensures c.in-Some.ensures.value in
+          let finds =
+          turn_finds _ _ _ _ _ search may.numbers _ _ _ (ap (λ k. k.top.0) may.agrees.knows) c.in_ok-content.ensures.agrees c.in-Some.ensures.value in
           rw p.1
           (chain_stops g.D.Disk.moves g.D.Disk.meaning _ _ c.args.disk.now _ _ search may.numbers (c.loop-content.invariant.2 may)
           c.in-Some.entry finds _
           c.carry.ensures.moves
           _ c.in_err-carry-in-Some.field-0.0.fault
           c.in_err-carry-in-Some.ensures.effect);
+      runs =
+          rw (p.1, p.2)
+          (turn_stopped g.D.Disk.moves g.D.Disk.meaning _ _ _ _ _ _ c.loop-content.invariant.3 c.in-Some.entry
+          (found_to_carry _ _ _ _ _ _ c.in_ok-content.ensures.looks c.in-Some.ensures.value)
+          _ _
+          c.in_err-carry-in-Some.field-0.0
+          c.in_err-carry-in-Some.ensures.work
+          c.in_err-carry-in-Some.ensures.appends);
     }
 
 pub returns : goal.returns
@@ -80,10 +96,23 @@ returns g c =
       gap = c.gap-gap.ensures;
       search = λ may.
           let search = c.loop-content.invariant.1 may in
-          let finds = turn_finds _ _ _ _ _ search may.numbers _ _ _ (ap (λ k. k.top.0) may.agrees.knows) c.in_ok-content.ensures c.in-None.ensures.value in
+          let finds =
+          turn_finds _ _ _ _ _ search may.numbers _ _ _ (ap (λ k. k.top.0) may.agrees.knows) c.in_ok-content.ensures.agrees c.in-None.ensures.value in
           turn_ends _ _ _ _ _ search may.numbers finds;
       moves = λ may.
           let search = c.loop-content.invariant.1 may in
-          let finds = turn_finds _ _ _ _ _ search may.numbers _ _ _ (ap (λ k. k.top.0) may.agrees.knows) c.in_ok-content.ensures c.in-None.ensures.value in
+          let finds =
+          turn_finds _ _ _ _ _ search may.numbers _ _ _ (ap (λ k. k.top.0) may.agrees.knows) c.in_ok-content.ensures.agrees c.in-None.ensures.value in
           chain_ends g.D.Disk.moves g.D.Disk.meaning _ _ c.args.disk.now _ _ search may.numbers (c.loop-content.invariant.2 may) finds;
+      runs =
+          record {
+            clear = found_to_carry _ _ _ _ _ _ c.in_ok-content.ensures.looks c.in-None.ensures.value;
+            on = c.loop-content.invariant.3;
+          };
     }
+
+pub returns-in_err-content-clause-runs : goal.returns-in_err-content-clause-runs
+returns-in_err-content-clause-runs g c =
+    let p = err_from_is_err_and c.from_residual.result c.from_residual.ensures.1 in
+    rw (p.1, p.2)
+    (turn_unread g.D.Disk.moves g.D.Disk.meaning _ _ _ _ _ _ c.loop-content.invariant.3 _ c.in_err-content.ensures.looks)

@@ -1,5 +1,6 @@
 -- The search goes on from where it began, and fewer live records are left to carry with each turn.
 use Rattle.std.proofs.Common.{◌≤◌}
+use Rattle.ring.specs.Runs.{RunsOn}
 use Rattle.ring.specs.Search.{MaySearch, GoesOn}
 use Rattle.ring.proofs.Knows.{left}
 use Rattle.ring.proofs.Searches.{Searching}
@@ -14,6 +15,7 @@ invariant-loop-content g l =
     × (MaySearch l.initial.self (g.D.Disk.meaning l.initial.disk) l.series →
     GoesOn g.D.Disk.moves g.D.Disk.meaning l.initial.self.format l.series l.initial.disk
     (steps_left l.initial.self.format l.series (g.D.Disk.meaning l.initial.disk) (g.D.Disk.meaning l.disk)) l.disk)
+    × RunsOn g.D.Disk.moves g.D.Disk.meaning l.series l.start.0 l.initial.self l.initial.disk l.self l.disk
 
 abbrev pub decreases-loop-content : goal.decreases-loop-content
 decreases-loop-content g l = left l.start.0 l.series 0 l.self.known.lives

@@ -1,48 +1,82 @@
--- Each line of a piece is printed, and the last one held where it has not ended.
-use Rattle.std.proofs.Common.{◌≡◌, ◌∙◌, ◌++◌, ℕ, Bool, List, [], None, Some, take, refl, sym, ap, subst, append_assoc}
-use Rattle.simulator.specs.Feeds.{Answers}
-use Rattle.simulator.specs.Files.{print_of_lines}
-use Rattle.simulator.specs.Lines.{line_end, first_bytes}
-use Rattle.simulator.specs.Takes.{run_of}
+-- Each line of a piece is taken, and the last one held where it has not ended.
+use Rattle.std.proofs.Common.{rules, ◌≡◌, ◌∙◌, ◌++◌, ℕ, List, [], ◌∷◌, None, Some, take, refl, sym, ap, subst, append_assoc}
+use Rattle.std.specs.declared.ops.ControlFlow.TheVariants.{Continue, Break}
+use Rattle.simulator.specs.Feeds.{Answers, held_row}
+use Rattle.simulator.specs.Files.{Flow, rows_of}
+use Rattle.simulator.specs.Lines.{line_end, first_bytes, lines_of}
+use Rattle.simulator.specs.Takes.{Row, run_of}
 use Rattle.simulator.specs.declared.feed.Feed.{Feed}
-use Rattle.simulator.proofs.Feeds.{line_stops, line_goes_on, still_pending}
+use Rattle.simulator.proofs.Feeds.{line_goes_on, run_stops, run_goes_on, still_holds, takes_none, takes_more}
 use Rattle.simulator.proofs.feed.Feed.feed.Goals as goal
 
-pub returns-then-branch : goal.returns-then-branch
-returns-then-branch c line pending more =
-    let at = c.loop-count.invariant line pending in
+pub loop-count-init : goal.loop-count-init
+loop-count-init c line holds =
+    record {
+      rows = [];
+      takes = takes_none c.args.self.now.simulator c.args.print.now.items;
+      unended = line;
+      holds = holds;
+      splits = λ more. refl;
+    }
+
+pub returns-then-is_break : goal.returns-then-is_break
+returns-then-is_break c line holds =
+    let at = c.loop-count.invariant line holds in
     let rest = c.loop-count.rest.now in
     let f : Feed = record { simulator = c.loop-count.self.simulator; partial = c.fill.new.self } in
     let ends : line_end rest ≡ Some c.in-Some.count = sym c.fill.ensures.end ∙ c.in-Some.is in
-    let same = c.fill.ensures.holds ∙ ap (λ (xs : List ℕ). take 22 (xs ++ first_bytes rest)) at.1.holds in
+    let same = c.fill.ensures.holds ∙ ap (λ (xs : List ℕ). take 22 (xs ++ first_bytes rest)) at.holds in
+    let stops : c.in_ok-answer.field-0 ≡ Break tt = search rules in
     let a =
-    subst (λ (b : Bool). Answers f c.loop-count.print.items b c.answer.new.self c.answer.new.print.items) c.if-branch.true c.in_ok-answer.ensures in
-    at.2 more
-    ∙ line_stops at.0 rest more c.in-Some.count at.1.goes_on ends f c.answer.new.self c.loop-count.print.items c.answer.new.print.items same a
+    subst (λ (flow : Flow). Answers f c.loop-count.print.items flow c.answer.new.self c.answer.new.print.items) stops c.in_ok-answer.ensures in
+    record {
+      rows = _;
+      takes = takes_more at.takes a.takes;
+      all =
+          λ more.
+          at.splits more
+          ∙ ap (λ (rows : List Row). at.rows ++ rows)
+          (run_stops at.unended rest more c.in-Some.count ends f c.answer.new.self c.loop-count.print.items c.answer.new.print.items same a);
+    }
 
 pub loop-count-preserved : goal.loop-count-preserved
-loop-count-preserved c line pending =
-    let at = c.loop-count.invariant line pending in
+loop-count-preserved c line holds =
+    let at = c.loop-count.invariant line holds in
     let rest = c.loop-count.rest.now in
     let f : Feed = record { simulator = c.loop-count.self.simulator; partial = c.fill.new.self } in
     let ends : line_end rest ≡ Some c.in-Some.count = sym c.fill.ensures.end ∙ c.in-Some.is in
-    let same = c.fill.ensures.holds ∙ ap (λ (xs : List ℕ). take 22 (xs ++ first_bytes rest)) at.1.holds in
+    let same = c.fill.ensures.holds ∙ ap (λ (xs : List ℕ). take 22 (xs ++ first_bytes rest)) at.holds in
+    let row = held_row f in
+    let goes : c.in_ok-answer.field-0 ≡ Continue tt = search rules in
     let a =
-    subst (λ (b : Bool). Answers f c.loop-count.print.items b c.answer.new.self c.answer.new.print.items) c.if-branch.false c.in_ok-answer.ensures in (
-      [],
-      record { holds = a.empty; goes_on = refl },
-      λ more. at.2 more
-          ∙ line_goes_on at.0 rest more c.in-Some.count at.1.goes_on ends f c.answer.new.self c.loop-count.print.items c.answer.new.print.items same a
-          ∙ ap (λ (xs : List ℕ). c.answer.new.print.items ++ print_of_lines (run_of c.answer.new.self.simulator) (xs ++ more)) (sym c.after-rest.ensures),
-    )
+    subst (λ (flow : Flow). Answers f c.loop-count.print.items flow c.answer.new.self c.answer.new.print.items) goes c.in_ok-answer.ensures in
+    record {
+      rows = _;
+      takes = takes_more at.takes a.takes;
+      unended = [];
+      holds = a.empty;
+      splits =
+          λ more.
+          at.splits more
+          ∙ ap (λ (rows : List Row). at.rows ++ rows)
+          (run_goes_on at.unended rest more c.in-Some.count ends f c.answer.new.self c.loop-count.print.items c.answer.new.print.items same a
+          ∙ ap (λ (xs : List ℕ). row ∷ rows_of (lines_of (xs ++ more)) (run_of c.answer.new.self.simulator)) (sym c.after-rest.ensures))
+          ∙ sym (append_assoc at.rows (row ∷ []) _);
+    }
 
 pub returns : goal.returns
-returns c line pending =
-    let at = c.loop-count.invariant line pending in
+returns c line holds =
+    let at = c.loop-count.invariant line holds in
     let rest = c.loop-count.rest.now in
-    let none : line_end rest ≡ None = sym c.fill.ensures.end ∙ c.in_default.is in (
-      at.0 ++ rest,
-      still_pending c.loop-count.self.partial c.fill.new.self at.0 rest at.1 none c.fill.ensures.holds,
-      λ more. at.2 more
-          ∙ ap (λ (xs : List ℕ). c.loop-count.print.items ++ print_of_lines (run_of c.loop-count.self.simulator) xs) (sym (append_assoc at.0 rest more)),
-    )
+    let none : line_end rest ≡ None = sym c.fill.ensures.end ∙ c.in_default.is in
+    record {
+      rows = at.rows;
+      takes = at.takes;
+      unended = at.unended ++ rest;
+      holds =
+          still_holds c.loop-count.self.partial c.fill.new.self at.unended rest at.holds none c.fill.ensures.holds;
+      splits =
+          λ more.
+          at.splits more
+          ∙ ap (λ (lines : List (List ℕ)). at.rows ++ rows_of lines (run_of c.loop-count.self.simulator)) (line_goes_on rest more at.unended none);
+    }

@@ -1,15 +1,23 @@
--- The last line is printed, if there is one.
-use Rattle.std.proofs.Common.{rules, ◌≡◌, ◌∙◌, length, ap, sym}
-use Rattle.simulator.proofs.Feeds.{last_line, nothing_held}
+-- The last line is taken, if there is one.
+use Rattle.std.proofs.Common.{rules, ◌≡◌, ◌∙◌, List, length, ap, sym, subst}
+use Rattle.simulator.specs.Feeds.{Takes}
+use Rattle.simulator.specs.Takes.{Row, run_of}
+use Rattle.simulator.proofs.Feeds.{last_row, no_row, takes_none}
 use Rattle.simulator.proofs.feed.Feed.finish.Goals as goal
 
 pub returns-in_ok-answer : goal.returns-in_ok-answer
 returns-in_ok-answer c line pending =
+    let s = c.args.self.now.simulator in
     let some : length c.line.result.now ≡ 0 → ⊥ = search rules in
-    last_line c.args.self.now c.answer.new.self _ _ _ c.in_ok-answer.ensures line pending
-    (λ none. some (ap length c.line.ensures.bytes ∙ none))
+    let held_is = ap length c.line.ensures.bytes in
+    subst (λ (rows : List Row). Takes s c.args.print.now.items rows c.answer.new.self.simulator c.answer.new.print.items)
+    (last_row (run_of s) c.args.self.now.partial line pending (λ none. some (held_is ∙ none)))
+    c.in_ok-answer.ensures.takes
 
 pub returns-else-not-is_empty : goal.returns-else-not-is_empty
 returns-else-not-is_empty c line pending =
+    let s = c.args.self.now.simulator in
     let none : length c.line.result.now ≡ 0 = search rules in
-    nothing_held c.args.self.now _ line pending (sym (ap length c.line.ensures.bytes) ∙ none)
+    subst (λ (rows : List Row). Takes s c.args.print.now.items rows s c.args.print.now.items)
+    (no_row (run_of s) c.args.self.now.partial line pending (sym (ap length c.line.ensures.bytes) ∙ none))
+    (takes_none s c.args.print.now.items)

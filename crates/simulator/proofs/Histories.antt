@@ -1,0 +1,106 @@
+-- What a run's server has answered obeys the laws.
+use Rattle.std.proofs.Common.{◌≡◌, ℕ, min, List, [], ◌∷◌, ◌++◌, Some, Ok, Err, Result, refl, sym, ap, ◌∙◌, rules}
+use Rattle.record.specs.declared.numbers.Identifier.{Identifier}
+use Rattle.record.specs.declared.numbers.Sequence.{Sequence}
+use Rattle.disk.specs.Blank.{WithoutRecords}
+use Rattle.kind.specs.Meaning.{LawfulKind}
+use Rattle.ring.specs.Operations.{Chain}
+use Rattle.server.specs.Rules.{one, tries, woken, Gave, WasCut}
+use Rattle.server.specs.declared.fault.ServerFault.{ServerFault}
+use Rattle.server.specs.declared.state.State.{State}
+use Rattle.history.proofs.Obeys.{every_history_obeys}
+use Rattle.history.proofs.Serves.{begun-at}
+use Rattle.history.specs.History.{Event, request, cut}
+use Rattle.history.specs.Made.{turn_of, turns_of}
+use Rattle.history.specs.Promise.{Reached, gave, was_cut}
+use Rattle.history.specs.declared.calls.Answer.{Answer as CallAnswer}
+use Rattle.history.specs.declared.calls.Answer.TheVariants.{Give as OfGive, Cut as OfCut}
+use Rattle.history.specs.declared.calls.Call.{Call}
+use Rattle.history.specs.declared.calls.Call.TheVariants.{Give as ToGive, Cut as ToCut}
+use Rattle.history.specs.declared.calls.Turn.{Turn}
+use Rattle.simulator.specs.Calls.{answer_in, turn_for, Extends}
+use Rattle.simulator.specs.Devices.{meaning_of, device_moves}
+use Rattle.simulator.specs.Histories.{HasServed}
+use Rattle.simulator.specs.Kinds.{numbering_of}
+use Rattle.simulator.specs.Steps.{given, woken_up}
+use Rattle.simulator.specs.declared.answer.Answer.{Answer}
+use Rattle.simulator.specs.declared.answer.Denial.{Denial}
+use Rattle.simulator.specs.declared.any_kind.AnyKind.{AnyKind}
+use Rattle.simulator.specs.declared.any_kind.AnyKind.TheVariants.{Serial, Time}
+use Rattle.simulator.specs.declared.device.Device.{Device}
+use Rattle.simulator.specs.declared.request.Command.TheVariants.{Give, Cut}
+use Rattle.simulator.specs.declared.request.Fields.{Fields}
+
+lawful : (kind : AnyKind) → LawfulKind (numbering_of kind)
+lawful (Serial kind) = search rules
+lawful (Time kind) = search rules
+
+-- a history that is reached from a disk without records
+module _ (kind : AnyKind) (first : Device) (without : WithoutRecords (meaning_of first)) where
+  pub served :
+      (history : List Event) (turns : List Turn) (state : State) (disk : Device) → turns ≡ turns_of history →
+      Reached device_moves meaning_of (numbering_of kind) first history state disk → HasServed kind state disk turns
+  served history turns state disk answered reached =
+      record {
+        first = first;
+        without = without;
+        history = history;
+        answered = answered;
+        reached = reached;
+        obeys = every_history_obeys device_moves meaning_of (numbering_of kind) first history state disk (lawful kind) without reached;
+      }
+
+-- a server that was just put together
+pub put_together :
+    (kind kind' : AnyKind) (first disk : Device) (state : State) (turns : List Turn) → kind' ≡ kind → disk ≡ first →
+    state ≡ woken (numbering_of kind) (meaning_of first) → WithoutRecords (meaning_of first) × (turns ≡ []) →
+    HasServed kind' state disk turns
+put_together kind kind' first disk state turns same_kind same is before =
+    rw same_kind
+    (served kind first before.0 [] turns state disk before.1
+    (begun-at device_moves meaning_of (numbering_of kind) first state disk is same))
+
+-- what the answer to a line tells of the server's
+given_told : (series : ℕ) (r : Result Identifier ServerFault) → answer_in (given series r) ≡ Some (OfGive r)
+given_told series (Ok identifier) = refl
+given_told series (Err fault) = refl
+
+woken_told : (r : Result Sequence ServerFault) → answer_in (woken_up r) ≡ Some (OfCut r)
+woken_told (Ok top) = refl
+woken_told (Err fault) = refl
+
+-- one call more, by the server's own relations
+module _ (kind : AnyKind) (state after : State) (d d' : Device) (f : Fields) (answer : Result Answer Denial) where
+  one_more :
+      (call : Call) (r : CallAnswer) (event : Event) → turn_of event ≡ record { call = call; answer = Some r } →
+      ((first : Device) (past : List Event) → Reached device_moves meaning_of (numbering_of kind) first past state d →
+      Reached device_moves meaning_of (numbering_of kind) first (event ∷ past) after d') →
+      (turns : List Turn) → HasServed kind state d turns →
+      HasServed kind after d' (turns ++ (record { call = call; answer = Some r } ∷ []))
+  one_more call r event is more turns before =
+      served kind before.first before.without (event ∷ before.history) _ after d'
+      (ap (λ (x : List Turn). x ++ (record { call = call; answer = Some r } ∷ [])) before.answered
+      ∙ ap (λ (x : Turn). turns_of before.history ++ (x ∷ [])) (sym is))
+      (more before.first before.history before.reached)
+
+  pub request_served :
+      (r : Result Identifier ServerFault) → answer ≡ given f.a r →
+      Gave (numbering_of kind) state (meaning_of d) (min f.a 255) (record { 0 = f.b }) r after (meaning_of d') →
+      Chain device_moves d (tries (numbering_of kind) state (meaning_of d) (one (min f.a 255) (record { 0 = f.b }))) d' →
+      Extends (HasServed kind state d) (turn_for Give f answer) (HasServed kind after d')
+  request_served r told did chain turns before =
+      rw (told, given_told f.a r)
+      (one_more (ToGive (min f.a 255) (record { 0 = f.b })) (OfGive r)
+      (request (min f.a 255) (record { 0 = f.b }) r (meaning_of d')) refl
+      (λ first past reached. gave reached did chain)
+      turns before)
+
+  pub cut_served :
+      (r : Result Sequence ServerFault) → answer ≡ woken_up r →
+      WasCut (numbering_of kind) (meaning_of d) f.b r after (meaning_of d') → device_moves.cuts d f.a f.b d' →
+      Extends (HasServed kind state d) (turn_for Cut f answer) (HasServed kind after d')
+  cut_served r told did cuts turns before =
+      rw (told, woken_told r)
+      (one_more (ToCut f.a f.b) (OfCut r) (cut f.a f.b r (meaning_of d')) refl
+      (λ first past reached. was_cut reached did cuts)
+      turns before)
