@@ -1,6 +1,6 @@
 -- What the ring's denials tell, and a disk's answer with the work that was under way.
 use Rattle.std.specs.Prelude.{ℕ, Some, None, Ok, Err, Result}
-use Rattle.disk.specs.Faults.{told, sector_told}
+use Rattle.disk.specs.Faults.{cause_details, sector_told}
 use Rattle.disk.specs.declared.fault.DiskFault.{DiskFault}
 use Rattle.ring.specs.declared.fault.Interrupted.{Interrupted}
 use Rattle.ring.specs.declared.fault.Particulars.{Particulars}
@@ -17,7 +17,7 @@ numbered number =
 -- what a disk's denial tells: the operation, and the sector where the disk tells it
 abbrev pub of_disk : DiskFault → Particulars
 of_disk fault =
-    record (numbered (told fault.cause).number) {
+    record (numbered (cause_details fault.cause).number) {
       operation = Some fault.operation;
       sector = sector_told fault;
     }
