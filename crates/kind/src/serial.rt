@@ -1,6 +1,7 @@
 // Serial identifiers: 1, 2, 3 and so on, whatever the clock says.
 ghost use Rattle.std.specs.Prelude.{◌≡◌};
 ghost use Rattle.kind.specs.Range.{IsWithin};
+ghost use Rattle.kind.specs.declared.serial.TheConstants.{LARGEST};
 
 use crate::fault::SettingFault;
 use crate::meaning::Kind;
@@ -9,11 +10,16 @@ use record::{Identifier, Rank, Reading};
 // The largest block.
 const LARGEST: u64 = 10_000;
 
+// What the number is.
+pub fn serial_limits()
+    ensures { LARGEST ≡ 10000 }
+{}
+
 // The serial kind, with the size of its blocks.
 #[derive(Clone, Copy, PartialEq, Eq, Debug)]
 pub struct SerialKind {
     size: u64,
-    ghost in_range: { IsWithin 1 10000 size },
+    ghost in_range: { IsWithin 1 LARGEST size },
 }
 
 impl SerialKind {

@@ -1,6 +1,7 @@
 // Time-sequenced identifiers: a rank is a millisecond and a step within it.
 ghost use Rattle.std.specs.Prelude.{◌≡◌};
 ghost use Rattle.kind.specs.Range.{IsWithin};
+ghost use Rattle.kind.specs.declared.time.TheConstants.{LONGEST, LAST_BOX};
 
 use crate::fault::SettingFault;
 use crate::meaning::Kind;
@@ -16,11 +17,16 @@ const LONGEST: u64 = 60_000;
 // The highest number of a box.
 const LAST_BOX: u64 = 127;
 
+// What these numbers are.
+pub fn time_limits()
+    ensures { (STEPS ≡ 4096) × (LONGEST ≡ 60000) × (LAST_BOX ≡ 127) }
+{}
+
 // The time that the ranks of one reservation last, in milliseconds.
 #[derive(Clone, Copy, PartialEq, Eq, Debug)]
 pub struct Lease {
     milliseconds: u64,
-    ghost in_range: { IsWithin 1 60000 milliseconds },
+    ghost in_range: { IsWithin 1 LONGEST milliseconds },
 }
 
 impl Lease {
@@ -75,7 +81,7 @@ pub struct TimeKind {
     lease: Lease,
     box_number: u64,
     correction: Correction,
-    ghost in_range: { IsWithin 0 127 box_number },
+    ghost in_range: { IsWithin 0 LAST_BOX box_number },
 }
 
 impl TimeKind {
