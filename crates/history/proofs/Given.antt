@@ -1,5 +1,5 @@
 -- Ranks that are given: what is told of the series then, that they rise, and which reservation covers one.
-use Rattle.std.proofs.Common.{◌≡◌, ℕ, zero, suc, ◌+◌, ◌-◌, ◌*◌, ◌<◌, ◌≤◌, min, List, ◌∷◌, length, refl, ap, ◌∙◌, ⊎_elim, add-mul, one-mul, zero-mul, arith}
+use Rattle.std.proofs.Common.{◌≡◌, ℕ, zero, suc, ◌+◌, ◌-◌, ◌*◌, ◌<◌, ◌≤◌, min, List, ◌∷◌, length, inl, inr, refl, ap, ◌∙◌, ⊎_elim, add-mul, one-mul, zero-mul, arith}
 use Rattle.std.proofs.ByRecursion.{All-weaker}
 use Rattle.std.proofs.lemmas.Bool.{cases_lt, cases_order, le-leb, lt-ltb, lt-leb}
 use Rattle.record.specs.declared.numbers.Identifier.{Identifier}
@@ -56,7 +56,7 @@ covered_here :
     (B rank lo : ℕ) (r : Range) (older : List Range) → r.first ≤ rank → rank < r.end → lo < B → rank ≡ length older * B + lo →
     Covered B rank (r ∷ older)
 covered_here B rank lo r older from inside small sum =
-    record { lo = lo; below = small; sum = rw (le-leb r.first rank from, lt-ltb rank r.end inside) sum }
+    record { there = inl (from, inside); lo = lo; below = small; sum = rw (le-leb r.first rank from, lt-ltb rank r.end inside) sum }
 
 covered : (k : Numbering) (rank h : ℕ) → rank < min (h * k.block) (k.top.0 + 1) → Covered k.block rank (blocks k h)
 covered k rank zero below = let z = zero-mul k.block in absurd (omega arith)
