@@ -1,5 +1,5 @@
 -- What a call of the ring makes of a request, and of what the server knows.
-use Rattle.std.proofs.Common.{◌≡◌, ℕ, zero, suc, ◌≤◌, List, [], ◌∷◌, length, get_or, set, Bool, true, false, cond, ltb, Option, Some, None, Ok, Err}
+use Rattle.std.proofs.Common.{◌≡◌, ℕ, zero, suc, ◌≤◌, List, [], ◌∷◌, length, get_or, set, Bool, true, false, ltb, Option, Some, None, Ok, Err}
 use Rattle.std.proofs.Common.{Result, refl, sym, ap, ◌∙◌, subst, min, max, ◌+◌, ◌-◌, ◌<◌, arith}
 use Rattle.std.proofs.lemmas.List.{get_or-set_same, length-map, map-set, set-set}
 use Rattle.std.proofs.lemmas.List.FromFn.{get_or-map-range_with_len, length-map-range_with_len}
@@ -36,6 +36,10 @@ use Rattle.server.specs.declared.fault.ServerFault.TheVariants.{AboveTop, Ring a
 use Rattle.server.specs.declared.state.State.{State}
 use Rattle.server.specs.declared.state.State.TheVariants.{Up as Awake, Down as Fallen}
 use Rattle.server.specs.declared.state.Up.{Up}
+
+-- what was answered was not denied
+ok_no_err : {A : Type 0} {x : A} {fault : RingFault} → ◌≡◌ {A = Result A RingFault} (Ok x) (Err fault) → ⊥
+ok_no_err e = let z : ◌≡◌ {A = ℕ} 0 1 = cc in omega arith
 
 -- a reservation that was stopped tells the operation that stopped it
 pub stopped_tells :
@@ -113,8 +117,7 @@ module _ (u : Up) (m : Meaning) (agrees : Agrees u.ring m) (ends : KnowsEnds u) 
         not_refused : (reserved : Reserved) → answer ≡ Ok reserved → (o : Option RingFault) → ring_refusal u.ring s end ≡ o → ring_refusal u.ring s end ≡ None
         not_refused reserved is None e = e
         not_refused reserved is (Some fault) e =
-            absurd
-            (let z : ◌≡◌ {A = Result Reserved RingFault} (Ok reserved) (Err fault) = sym is ∙ (refused fault e).0 in let y : ◌≡◌ {A = ℕ} 0 1 = cc in omega arith)
+            absurd (ok_no_err (sym is ∙ (refused fault e).0))
 
         below : ring_refusal u.ring s end ≡ None → s < 8
         below e = grind arith
@@ -224,8 +227,7 @@ ready_knows k u m knows s end false u' m' took ends =
         (subst (λ (x : Ring). Ended u.ring.format s end m (Ok (reservation u.ring.format m.reading s end)) x m') (sym same) (took.reserves.reserves e))
         ends
     by_refusal (Some fault) e =
-        absurd
-        (let z : ◌≡◌ {A = Result Reserved RingFault} (Ok (reservation u.ring.format m.reading s end)) (Err fault) = (took.reserves.refused fault e).0 in let y : ◌≡◌ {A = ℕ} 0 1 = cc in omega arith)
+        absurd (ok_no_err ((took.reserves.refused fault e).0))
 
 -- and so does a draw
 pub drawn_knows :
@@ -343,7 +345,7 @@ module _ {k : Numbering} {u : Up} {s : ℕ} {reading : ClockReading} {floor rank
         (fault : RingFault) (b : Bool) → ltb rank.0 own.end.0 ≡ b → Ready b u m s end' (Err fault) u' m' →
         Gave k (Awake u) m s reading (Err (OfRing fault)) (stopped u fault) m'
     denied_test fault true e ready =
-        absurd (let z : ◌≡◌ {A = Result (Unit {0}) RingFault} (Err fault) (Ok tt) = ready.0 in let y : ◌≡◌ {A = ℕ} 0 1 = cc in omega arith)
+        absurd (ok_no_err (sym ready.0))
     denied_test fault false e took = denied_by (ltb-false rank.0 own.end.0 e) fault took
 
     pub ready_gives : Ready (ltb rank.0 own.end.0) u m s end' (Ok tt) u' m' → Gives

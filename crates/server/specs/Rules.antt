@@ -64,7 +64,9 @@ abbrev pub claim : Numbering → ℕ → ℕ → ℕ → Option Range
 claim k end first n =
     if nat_le (first + n) end
     then None
-    else Some (record { first = max end first; end = (block_end k (record { 0 = first + n - 1 })).0 })
+    else
+    let last : Rank = record { 0 = first + n - 1 } in
+    Some (record { first = max end first; end = (block_end k last).0 })
 
 -- by the rank: above the top, or drawn
 abbrev pub by_rank : Numbering → ℕ → ℕ → ℕ → ℕ → Wish
@@ -146,7 +148,8 @@ module _ (u : Up) (m : Meaning) (s : ℕ) (end : Rank) where
   Took (Err fault) u' m' = TookNone fault u' m'
 
 -- a block in hand that ends above a rank stays; else one is reserved
-abbrev pub Ready : Bool → Up → Meaning → ℕ → Rank → Result (Unit {0}) RingFault → Up → Meaning → Type 0
+abbrev pub Ready :
+    Bool → Up → Meaning → ℕ → Rank → Result (Unit {0}) RingFault → Up → Meaning → Type 0
 Ready true u m s end r u' m' = (r ≡ Ok tt) × (u' ≡ u) × (m' ≡ m)
 Ready false u m s end r u' m' = Took u m s end r u' m'
 
