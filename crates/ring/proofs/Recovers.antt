@@ -7,7 +7,7 @@ use Rattle.record.specs.declared.sector.Content.{Content}
 use Rattle.record.specs.declared.sector.Content.TheVariants.{Blank, Foreign, Record as Holds}
 use Rattle.record.specs.declared.sector.Format.{Format}
 use Rattle.disk.specs.Meaning.{Meaning, at, found}
-use Rattle.ring.specs.Ring.{record_in, slot, top, gap, known, known_gap, live_by, holds_live, is_foreign, Native, Free, Sized, Agrees, first_of, foreign_below, scanned, recovered}
+use Rattle.ring.specs.Ring.{record_in, slot, top, gap, known, known_gap, holds_live_by, holds_live, is_foreign, Native, Free, Sized, Agrees, first_of, foreign_below, scanned, recovered}
 use Rattle.ring.specs.declared.fault.RingFault.TheVariants.{LiveInGap}
 use Rattle.ring.specs.declared.known.Known.{Known}
 use Rattle.ring.specs.declared.ring.Ring.{Ring}
@@ -52,7 +52,7 @@ module _ (f : Format) (reading : List (List ℕ)) (count : f.sectors ≡ length 
   gap_in = mod_below (top f reading + 1) (length reading) (omega arith)
 
   -- by content of the gap
-  live_tells : (c : Content) → content f (gap f reading) (at reading (gap f reading)) ≡ c → live_by k c ≡ holds_live f reading (record_in c)
+  live_tells : (c : Content) → content f (gap f reading) (at reading (gap f reading)) ≡ c → holds_live_by k c ≡ holds_live f reading (record_in c)
   live_tells Blank e = refl
   live_tells Foreign e = refl
   live_tells (Holds r) e =
@@ -69,19 +69,19 @@ module _ (f : Format) (reading : List (List ℕ)) (count : f.sectors ≡ length 
         let b : bytes ≡ at reading (gap f reading) = found_at reading (gap f reading) bytes gap_in (rw same_gap at read) in
         ap (content f (gap f reading)) (sym b) ∙ ap (λ (i : ℕ). content f i bytes) (sym same_gap) ∙ sym is
 
-    tells : live_by k c ≡ holds_live f reading (slot f reading (gap f reading))
+    tells : holds_live_by k c ≡ holds_live f reading (slot f reading (gap f reading))
     unfolding slot
     tells = live_tells c content_is ∙ ap (λ (x : Content). holds_live f reading (record_in x)) (sym content_is)
 
     in_range : (leb 10 f.sectors && leb f.sectors 2048) ≡ true
     in_range = rw (le-leb 10 f.sectors least, le-leb f.sectors 2048 most) refl
 
-    pub recover_live : live_by k c ≡ true → Err (LiveInGap g) ≡ recovered f reading
+    pub recover_live : holds_live_by k c ≡ true → Err (LiveInGap g) ≡ recovered f reading
     recover_live h =
         let holds : holds_live f reading (slot f reading (gap f reading)) ≡ true = sym tells ∙ h in
         rw (in_range, told.0, holds) (ap (λ (i : ℕ). Err (LiveInGap i)) same_gap)
 
-    pub recover_well : live_by k c ≡ false → Ok (record { format = f; known = k }) ≡ recovered f reading
+    pub recover_well : holds_live_by k c ≡ false → Ok (record { format = f; known = k }) ≡ recovered f reading
     recover_well h =
         let holds : holds_live f reading (slot f reading (gap f reading)) ≡ false = sym tells ∙ h in
         rw (in_range, told.0, holds) (ap (λ (x : Known). Ok (record_ring x)) told.1)
@@ -89,7 +89,7 @@ module _ (f : Format) (reading : List (List ℕ)) (count : f.sectors ≡ length 
         record_ring : Known → Ring
         record_ring x = record { format = f; known = x }
 
-    pub recover_agrees : (m : Meaning) → m.reading ≡ reading → f.tag < 256 → f.top.0 < 2 ^ 53 → live_by k c ≡ false → Agrees (record { format = f; known = k }) m
+    pub recover_agrees : (m : Meaning) → m.reading ≡ reading → f.tag < 256 → f.top.0 < 2 ^ 53 → holds_live_by k c ≡ false → Agrees (record { format = f; known = k }) m
     recover_agrees m reads tags tops h =
         let holds : holds_live f reading (slot f reading (gap f reading)) ≡ false = sym tells ∙ h in
         record {

@@ -1,5 +1,5 @@
 -- The ring by what its sectors read: the top record, the live records, and what a reservation writes.
-use Rattle.std.specs.Prelude.{◌≡◌, ℕ, zero, suc, ◌+◌, ◌-◌, ◌%◌, ◌^◌, ◌<◌, ◌≤◌, min, max, Bool, true, false, cond, not, ◌&&◌, List, [], ◌∷◌, map, length, Some, None, Ok, Err, Option, Result, ◌==◌, nat_le, nat_lt, slice_index_or, slice_set}
+use Rattle.std.specs.Prelude.{◌≡◌, ℕ, zero, suc, ◌+◌, ◌-◌, ◌%◌, ◌^◌, ◌<◌, ◌≤◌, min, max, Bool, true, false, not, if◌then◌else◌, ◌&&◌, List, [], ◌∷◌, map, length, Some, None, Ok, Err, Option, Result, ◌==◌, nat_le, nat_lt, slice_index_or, slice_set}
 use Rattle.std.specs.List.{range_with_len}
 use Rattle.record.specs.Sector.{content, encoded}
 use Rattle.record.specs.declared.numbers.Rank.{Rank}
@@ -18,9 +18,8 @@ use Rattle.ring.specs.declared.ring.Ring.{Ring}
 
 -- the record of a sector, where it holds one
 abbrev pub record_in : Content → Option Record
-record_in Blank = None
-record_in Foreign = None
 record_in (Holds r) = Some r
+record_in other = None
 
 -- the record in sector k of what is read
 unfoldable pub slot : Format → List (List ℕ) → ℕ → Option Record
@@ -51,11 +50,11 @@ live_of r = record { number = r.sequence; end = r.end }
 -- what a sector tells of a series
 abbrev pub live_in : ℕ → Option Record → Live
 live_in s None = none
-live_in s (Some r) = cond (r.series == s) (live_of r) none
+live_in s (Some r) = if r.series == s then live_of r else none
 
 -- the one of the higher number
 abbrev pub newer : Live → Live → Live
-newer a b = cond (nat_lt a.number.0 b.number.0) b a
+newer a b = if nat_lt a.number.0 b.number.0 then b else a
 
 -- the live record of a series among the first n sectors
 unfoldable pub live_below : Format → List (List ℕ) → ℕ → ℕ → Live
@@ -80,7 +79,7 @@ beyond f reading = (top f reading + 2) % length reading
 
 -- the sector that a number names, of so many; the first where there is none
 abbrev pub named : ℕ → ℕ → ℕ
-named number sectors = cond (sectors == 0) 0 (number % sectors)
+named number sectors = if sectors == 0 then 0 else number % sectors
 
 -- a record is live when its number is that of its series' live record
 abbrev pub is_live : Format → List (List ℕ) → Record → Bool
@@ -101,7 +100,8 @@ Free f reading = (r : Record) → slot f reading (gap f reading) ≡ Some r → 
 -- the record of a slot, if it is the live record of another series
 abbrev pub to_carry : Format → List (List ℕ) → ℕ → Option Record → Option Record
 to_carry f reading s None = None
-to_carry f reading s (Some r) = cond (not (r.series == s) && is_live f reading r) (Some r) None
+to_carry f reading s (Some r) =
+    if not (r.series == s) && is_live f reading r then Some r else None
 
 -- the record after the gap that has to be carried before series s reserves
 abbrev pub carried : Format → List (List ℕ) → ℕ → Option Record
@@ -124,7 +124,8 @@ pub record Step : Type 0 where
 
 -- the write of the reservation itself
 abbrev pub reserving : Format → List (List ℕ) → ℕ → ℕ → Step
-reserving f reading s end = record { work = Reservation s; sector = gap f reading; entry = next f reading s end }
+reserving f reading s end =
+    record { work = Reservation s; sector = gap f reading; entry = next f reading s end }
 
 -- the write of a carry: the record once more, with the next number and its own end
 abbrev pub carrying : Format → List (List ℕ) → Record → Step
@@ -132,9 +133,11 @@ carrying f reading r =
     record { work = Carry r.series; sector = gap f reading; entry = next f reading r.series r.end.0 }
 
 -- a carry and what follows it, or the reservation
-abbrev pub first_then : Format → List (List ℕ) → ℕ → ℕ → (Record → List Step) → Option Record → List Step
+abbrev pub first_then :
+    Format → List (List ℕ) → ℕ → ℕ → (Record → List Step) → Option Record → List Step
 first_then f reading s end rest None = reserving f reading s end ∷ []
-first_then f reading s end rest (Some r) = carrying f reading r ∷ rest (carrying f reading r).entry
+first_then f reading s end rest (Some r) =
+    carrying f reading r ∷ rest (carrying f reading r).entry
 
 -- the writes of a reservation with at most n carries, in their order
 unfoldable pub plan : Format → ℕ → ℕ → ℕ → List (List ℕ) → List Step
@@ -144,7 +147,8 @@ plan f (suc n) s end reading =
 
 -- what there is to know of the sectors
 abbrev pub known : Format → List (List ℕ) → Known
-known f reading = record { top = record { 0 = top f reading }; lives = map (live f reading) (range_with_len 0 8) }
+known f reading =
+    record { top = record { 0 = top f reading }; lives = map (live f reading) (range_with_len 0 8) }
 
 -- what is known once one record more is met
 abbrev pub met : Known → Record → Known
@@ -163,34 +167,33 @@ next_known k s end =
 abbrev pub live_among : List Live → ℕ → Live
 live_among lives s = slice_index_or lives s none
 
+-- whether a record is the live one of its series, by what is known
+abbrev pub is_live_by : Known → Record → Bool
+is_live_by k r = nat_lt r.series 8 && r.sequence.0 == (live_among k.lives r.series).number.0
+
 -- what is to be carried, by what is known: the live record of another series that is no newer than where the search began
 abbrev pub carry_of : Known → ℕ → ℕ → Content → Option Record
-carry_of k s start Blank = None
-carry_of k s start Foreign = None
 carry_of k s start (Holds r) =
-    cond (not (r.series == s) && ((nat_lt r.series 8 && r.sequence.0 == (live_among k.lives r.series).number.0) && nat_le r.sequence.0 start))
-    (Some r)
-    None
+    if not (r.series == s) && (is_live_by k r && nat_le r.sequence.0 start) then Some r else None
+carry_of k s start other = None
 
 -- the end of a series by what is known; 0 for a series above 7
 abbrev pub known_end : Known → ℕ → Rank
-known_end k s = cond (nat_lt s 8) (live_among k.lives s).end (record { 0 = 0 })
+known_end k s = if nat_lt s 8 then (live_among k.lives s).end else record { 0 = 0 }
 
 -- the ends of all eight series by what is known
 abbrev pub known_ends : Known → List Rank
 known_ends k = map (known_end k) (range_with_len 0 8)
 
 -- whether a sector holds a live record, by what is known
-abbrev pub live_by : Known → Content → Bool
-live_by k Blank = false
-live_by k Foreign = false
-live_by k (Holds r) = nat_lt r.series 8 && r.sequence.0 == (live_among k.lives r.series).number.0
+abbrev pub holds_live_by : Known → Content → Bool
+holds_live_by k (Holds r) = is_live_by k r
+holds_live_by k other = false
 
 -- whether a sector is foreign
 abbrev pub is_foreign : Content → Bool
-is_foreign Blank = false
 is_foreign Foreign = true
-is_foreign (Holds r) = false
+is_foreign other = false
 
 -- no sector is foreign
 abbrev pub Native : Format → List (List ℕ) → Type 0
@@ -223,7 +226,9 @@ first_of None y = y
 -- the lowest foreign sector among the first n
 unfoldable pub foreign_below : Format → List (List ℕ) → ℕ → Option ℕ
 foreign_below f reading zero = None
-foreign_below f reading (suc n) = first_of (foreign_below f reading n) (cond (is_foreign (content f n (at reading n))) (Some n) None)
+foreign_below f reading (suc n) =
+    first_of (foreign_below f reading n)
+    (if is_foreign (content f n (at reading n)) then Some n else None)
 
 -- whether a slot holds a live record
 abbrev pub holds_live : Format → List (List ℕ) → Option Record → Bool
@@ -239,13 +244,13 @@ scanned f reading None = Ok (known f reading)
 abbrev pub settled : Format → List (List ℕ) → Result Known RingFault → Result Ring RingFault
 settled f reading (Err fault) = Err fault
 settled f reading (Ok k) =
-    cond (holds_live f reading (slot f reading (gap f reading)))
-    (Err (LiveInGap (gap f reading)))
-    (Ok (record { format = f; known = k }))
+    if holds_live f reading (slot f reading (gap f reading))
+    then Err (LiveInGap (gap f reading))
+    else Ok (record { format = f; known = k })
 
 -- what recovery answers
 abbrev pub recovered : Format → List (List ℕ) → Result Ring RingFault
 recovered f reading =
-    cond (nat_le 10 f.sectors && nat_le f.sectors 2048)
-    (settled f reading (scanned f reading (foreign_below f reading (length reading))))
-    (Err (Size f.sectors))
+    if nat_le 10 f.sectors && nat_le f.sectors 2048
+    then settled f reading (scanned f reading (foreign_below f reading (length reading)))
+    else Err (Size f.sectors)

@@ -1,5 +1,6 @@
 -- The search for the gap that a reservation goes to, and the reservation after it, with what it is refused for.
-use Rattle.std.specs.Prelude.{◌≡◌, ℕ, ◌+◌, ◌-◌, ◌^◌, ◌<◌, ◌≤◌, cond, ◌&&◌, List, [], ◌∷◌, Some, None, Ok, Err, Option, Result, nat_le, nat_lt}
+use Rattle.std.specs.Prelude.{◌≡◌, ℕ, ◌+◌, ◌-◌, ◌^◌, ◌<◌, ◌≤◌, if◌then◌else◌, ◌&&◌, List, [], ◌∷◌, Some, None, Ok, Err, Option, Result, nat_le, nat_lt}
+use Rattle.record.specs.declared.sector.TheConstants.{LAST_SEQUENCE}
 use Rattle.record.specs.declared.numbers.Rank.{Rank}
 use Rattle.record.specs.declared.sector.Format.{Format}
 use Rattle.disk.specs.Meaning.{Meaning}
@@ -82,11 +83,11 @@ pub record Begun (f : Format) (s : ℕ) (end : Rank) (whole : Meaning) (w : Writ
 -- what a reservation is refused for before anything is touched: the end, the series, or that sequence numbers run short
 abbrev pub refusal : Format → ℕ → ℕ → Rank → Option RingFault
 refusal f top s end =
-    cond (nat_lt 0 end.0 && nat_le end.0 (f.top.0 + 1))
-    (cond (nat_lt s 8)
-    (cond (nat_le (top + 8) (2 ^ 62 - 1)) None (Some Exhausted))
-    (Some (Series s)))
-    (Some (End end))
+    if nat_lt 0 end.0 && nat_le end.0 (f.top.0 + 1)
+    then if nat_lt s 8
+    then if nat_le (top + 8) LAST_SEQUENCE then None else Some Exhausted
+    else Some (Series s)
+    else Some (End end)
 
 -- what is asked for, unless it is refused
 abbrev pub admitted : {A : Type 0} → A → Option RingFault → Result A RingFault

@@ -1,5 +1,5 @@
 -- A reservation that was written, by what its flush answers, and the blocks that ranks are drawn from once it is flushed.
-use Rattle.std.specs.Prelude.{◌≡◌, ℕ, ◌+◌, ◌<◌, ◌≤◌, max, cond, List, map, Some, None, Ok, Err, Option, Result, ◌==◌, nat_lt, slice_index_or, slice_set}
+use Rattle.std.specs.Prelude.{◌≡◌, ℕ, ◌+◌, ◌<◌, ◌≤◌, max, if◌then◌else◌, List, map, Some, None, Ok, Err, Option, Result, ◌==◌, nat_lt, slice_index_or, slice_set}
 use Rattle.record.specs.declared.numbers.Rank.{Rank}
 use Rattle.disk.specs.declared.fault.DiskFault.{DiskFault}
 use Rattle.ring.specs.declared.token.Block.{Block}
@@ -34,12 +34,12 @@ with_block blocks s block = record { 0 = slice_set blocks.0 s block }
 abbrev pub block_ends : Blocks → List Rank
 block_ends blocks = map (λ (block : Block). block.end) blocks.0
 
--- a block with the ranks from a start up to an end: it goes on where it ends at the start, and begins there otherwise, but never
--- below its next rank
+-- a block with the ranks from a start up to an end: it goes on where it ends at the start, and begins there otherwise, but
+-- never below its next rank
 abbrev pub extended : Rank → Rank → Block → Block
 extended start end b =
     record {
-      next = cond (b.end.0 == start.0) b.next (record { 0 = max b.next.0 start.0 });
+      next = if b.end.0 == start.0 then b.next else record { 0 = max b.next.0 start.0 };
       end = end;
     }
 
@@ -49,7 +49,10 @@ filled r blocks = with_block blocks r.series (extended r.start r.end (block_in b
 
 -- the rank that a block gives: the next one, but none below a least one, if that is below its end
 abbrev pub rank_of : Rank → Block → Option Rank
-rank_of least b = cond (nat_lt (max b.next.0 least.0) b.end.0) (Some (record { 0 = max b.next.0 least.0 })) None
+rank_of least b =
+    if nat_lt (max b.next.0 least.0) b.end.0
+    then Some (record { 0 = max b.next.0 least.0 })
+    else None
 
 -- what is drawn of a series
 abbrev pub drawn_as : ℕ → Option Rank → Option Drawn
@@ -67,7 +70,8 @@ gone_on (Some rank) b = record { next = record { 0 = rank.0 + 1 }; end = b.end }
 -- the blocks after a draw
 abbrev pub left_by : Option Drawn → Blocks → Blocks
 left_by None blocks = blocks
-left_by (Some d) blocks = with_block blocks d.series (gone_on (Some d.rank) (block_in blocks d.series))
+left_by (Some d) blocks =
+    with_block blocks d.series (gone_on (Some d.rank) (block_in blocks d.series))
 
 -- a rank that may still come out of the block of a series
 abbrev pub Holds : Blocks → ℕ → ℕ → Type 0

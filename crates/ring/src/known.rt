@@ -1,6 +1,6 @@
 // What the ring knows of its sectors.
-ghost use Rattle.std.specs.Prelude.{◌≡◌, ◌&&◌, length, nat_eq, nat_lt, slice_set};
-ghost use Rattle.ring.specs.Ring.{newer, live_of, met, noted, next_known, carry_of, live_among, live_by, known_end};
+ghost use Rattle.std.specs.Prelude.{◌≡◌, length, slice_set};
+ghost use Rattle.ring.specs.Ring.{newer, live_of, met, noted, next_known, carry_of, live_among, is_live_by, holds_live_by, known_end};
 
 use record::{Content, Rank, Record, Sequence};
 
@@ -151,14 +151,14 @@ impl Known {
 
     // Whether a record is the live one of its series.
     pub(crate) fn is_live(self, entry: Record) -> bool
-        ensures { result ≡ (nat_lt entry.series 8 && nat_eq entry.sequence.0 (live_among self.lives entry.series).number.0) }
+        ensures { result ≡ is_live_by self entry }
     {
         entry.series < 8 && entry.sequence == self.live(entry.series).number
     }
 
     // Whether a sector holds a live record.
     pub(crate) fn holds_live(self, content: Content) -> bool
-        ensures { result ≡ live_by self content }
+        ensures { result ≡ holds_live_by self content }
     {
         matches!(content, Content::Record(entry) if self.is_live(entry))
     }

@@ -67,8 +67,11 @@ impl Written {
 
     // Flushes the reservation. Where the disk denies that, the reservation comes back, to be given up.
     pub(crate) fn confirm<D: Disk>(self, disk: &mut D) -> Result<Reserved, Unconfirmed>
-        ensures answer { result ≡ confirmed self (answer_of Flush (D.meaning disk.old) self.sector) }
-        ensures effect { MatchResult result (λ _. Flushed (D.meaning disk.old) (D.meaning disk.new)) (λ _. D.meaning disk.new ≡ D.meaning disk.old) }
+        ensures answer { let m = D.meaning disk.old in
+            result ≡ confirmed self (answer_of Flush m self.sector) }
+        ensures effect { let m = D.meaning disk.old in
+            let after = D.meaning disk.new in
+            MatchResult result (λ _. Flushed m after) (λ _. after ≡ m) }
         ensures moves { D.moves.flushes disk.old self.sector disk.new }
     {
         // Each arm spends the token: it is taken apart, or handed on.
@@ -93,7 +96,8 @@ impl Written {
 impl Unconfirmed {
     // Gives the reservation up: what was written may stand after a cut, or not.
     pub(crate) fn give_up(self) -> Interrupted
-        ensures { result ≡ record { work = Reservation self.written.claim.series; fault = self.fault } }
+        ensures { let work = Reservation self.written.claim.series in
+            result ≡ record { work = work; fault = self.fault } }
     {
         let Unconfirmed { written, fault } = self;
         let Written {
@@ -181,7 +185,8 @@ impl Blocks {
     // Takes over the ranks that were reserved, into the block of their series.
     pub fn fill(&mut self, reserved: Reserved)
         ensures filled { self.new ≡ filled reserved self.old }
-        ensures only { (s rank : ℕ) → Holds self.new s rank → Holds self.old s rank ⊎ Covers reserved s rank }
+        ensures only { (s rank : ℕ) → Holds self.new s rank →
+            Holds self.old s rank ⊎ Covers reserved s rank }
     {
         let Reserved { series, start, end } = reserved;
         if series < 8 {
@@ -194,7 +199,8 @@ impl Blocks {
         ensures drawn { result ≡ drawn series least self.old }
         ensures rest { self.new ≡ left_by result self.old }
         ensures held { IfSome result (λ d. Holds self.old d.series d.rank.0) }
-        ensures once { IfSome result (λ d. (rank : ℕ) → Holds self.new d.series rank → d.rank.0 < rank) }
+        ensures once { IfSome result (λ d.
+            (rank : ℕ) → Holds self.new d.series rank → d.rank.0 < rank) }
         ensures only { (s rank : ℕ) → Holds self.new s rank → Holds self.old s rank }
     {
         if series >= 8 {
