@@ -18,8 +18,8 @@ pub record Recovers (f : Format) (reading : List (List ℕ)) : Type 0 where
 abbrev pub end_of : Format → List (List ℕ) → ℕ → ℕ
 end_of f reading s = (live f reading s).end.0
 
--- what may be left of sectors in which series s was reserving up to an end: they recover, and every end is as before, or of
--- series s the new one; the top record does not fall, and rises by at most 8
+-- what may be left of sectors in which series s was reserving up to an end: they recover, and every end is as before, or
+-- of series s the new one; the top record does not fall, and rises by at most 8
 pub record Left (f : Format) (s end : ℕ) (before after : List (List ℕ)) : Type 0 where
   pub recovers : Recovers f after
   pub ends : (t : ℕ) → (end_of f after t ≡ end_of f before t) ⊎ ((t ≡ s) × (end_of f after t ≡ end))
@@ -50,7 +50,8 @@ pub record LawfulReservation (f : Format) (s end : ℕ) (m : Meaning) : Type 0 w
   pub ends : end ≤ f.top.0 + 1
   pub numbers : top f m.reading + 8 < 2 ^ 62
 
--- wherever the current fails in a reservation, and whatever the cut leaves, the ring recovers with the old ends or the new one
+-- wherever the current fails in a reservation, and whatever the cut leaves, the ring recovers with the old ends or the
+-- new one
 abbrev pub CutWithin : Type 0
 CutWithin =
     (f : Format) (s end : ℕ) (m after left : Meaning) (supply : ℕ) →
@@ -72,9 +73,12 @@ ReservedWhole =
 abbrev pub CutAtRest : Type 0
 CutAtRest = (m left : Meaning) (supply : ℕ) → m.kept ≡ m.reading → Cut m supply left → left.reading ≡ m.reading
 
--- the writes that the rule asks for: a carry while the sector after the gap holds another series' live record, then the reservation
+-- the writes that the rule asks for: a carry while the sector after the gap holds another series' live record, then the
+-- reservation
 pub data Follows (f : Format) (s end : ℕ) : List (List ℕ) → List Step → Type 0 where
-  stops : {reading : List (List ℕ)} → carried f reading s ≡ None → Follows f s end reading (reserving f reading s end ∷ [])
+  stops :
+      {reading : List (List ℕ)} → carried f reading s ≡ None →
+      Follows f s end reading (reserving f reading s end ∷ [])
   carries :
       {reading : List (List ℕ)} {steps : List Step} (q : Record) → carried f reading s ≡ Some q →
       Follows f s end (with_record f reading (carrying f reading q).entry) steps →
@@ -86,7 +90,8 @@ SevenCarries =
     (f : Format) (s end : ℕ) (reading : List (List ℕ)) → HasRoom f s reading →
     Follows f s end reading (plan f 7 s end reading) × (length (plan f 7 s end reading) ≤ 8)
 
--- with k carries a reservation takes 2 × (k + 1) writes and flushes; with that supply it succeeds, and with less it is stopped
+-- with k carries a reservation takes 2 × (k + 1) writes and flushes; with that supply it succeeds, and with less it is
+-- stopped
 abbrev pub OperationsCounted : Type 0
 OperationsCounted =
     (f : Format) (value : Reserved) (steps : List Step) (supply : ℕ) →
@@ -99,9 +104,11 @@ abbrev pub TopsCounted : Type 0
 TopsCounted =
     (f : Format) (s end : ℕ) (m after : Meaning) →
     LawfulReservation f s end m →
-    Went m (performed f (plan f 7 s end m.reading) m.supply) after →
-    (top f after.reading ≤ top f m.reading + writes_in (performed f (plan f 7 s end m.reading) m.supply))
-    × ((left : Meaning) (supply : ℕ) → Cut after supply left → top f left.reading ≤ top f m.reading + writes_in (performed f (plan f 7 s end m.reading) m.supply))
+    let done = performed f (plan f 7 s end m.reading) m.supply in
+    Went m done after →
+    (top f after.reading ≤ top f m.reading + writes_in done)
+    × ((left : Meaning) (supply : ℕ) →
+    Cut after supply left → top f left.reading ≤ top f m.reading + writes_in done)
 
 -- the laws of a reservation
 pub record ReservationLaws : Type 0 where
