@@ -1,6 +1,7 @@
 -- The operations that are tried, as a disk's own relations take it over.
-use Rattle.std.proofs.Common.{◌≡◌, ℕ, ◌+◌, ◌-◌, ◌^◌, ◌<◌, List, [], ◌∷◌, Some, None, Ok, Err, Result, sym, ap, ◌∙◌, subst, ⊎_elim, arith}
+use Rattle.std.proofs.Common.{◌≤◌, ◌≡◌, ℕ, ◌+◌, ◌-◌, List, [], ◌∷◌, Some, None, Ok, Err, Result, sym, ap, ◌∙◌, subst, ⊎_elim, arith}
 use Rattle.std.proofs.lemmas.Grind.{common_steps}
+use Rattle.record.specs.declared.sector.TheConstants.{LAST_SEQUENCE}
 use Rattle.record.specs.Sector.{encoded}
 use Rattle.record.specs.declared.sector.Format.{Format}
 use Rattle.record.specs.declared.sector.Record.{Record}
@@ -26,11 +27,11 @@ chain_on moves d d' after i bytes ops both rest =
     (both.0, both.1, (both.2.0, both.2.1, subst (λ x. Chain moves x ops after) both.2.2 rest))
 
 -- one turn of the search, by the ring's own format
-module _ {D : Type 0} (moves : Moves D) (meaning : D → Meaning) (s : ℕ) (start : D) (r : Ring) (d : D) (search : Searching r.format s (meaning start) r (meaning d)) (numbers : top r.format (meaning start).reading + 8 < 2 ^ 62) (rest : GoesOn moves meaning r.format s start (steps_left r.format s (meaning start) (meaning d)) d) where
+module _ {D : Type 0} (moves : Moves D) (meaning : D → Meaning) (s : ℕ) (start : D) (r : Ring) (d : D) (search : Searching r.format s (meaning start) r (meaning d)) (numbers : top r.format (meaning start).reading + 8 ≤ LAST_SEQUENCE) (rest : GoesOn moves meaning r.format s start (steps_left r.format s (meaning start) (meaning d)) d) where
   abbrev m : Meaning
   m = meaning d
 
-  low : top r.format m.reading < 2 ^ 62
+  low : top r.format m.reading ≤ LAST_SEQUENCE
   low = omega (arith, search.few)
 
   ends : carried r.format m.reading s ≡ None → GoesOn moves meaning r.format s start (λ end. reserving r.format m.reading s end ∷ []) d
@@ -80,12 +81,12 @@ module _ {D : Type 0} (moves : Moves D) (meaning : D → Meaning) (s : ℕ) (sta
           denied)
 
 -- the same by the format that the search began with
-module _ {D : Type 0} (moves : Moves D) (meaning : D → Meaning) (f : Format) (s : ℕ) (start : D) (r : Ring) (d : D) (search : Searching f s (meaning start) r (meaning d)) (numbers : top f (meaning start).reading + 8 < 2 ^ 62) (rest : GoesOn moves meaning f s start (steps_left f s (meaning start) (meaning d)) d) where
+module _ {D : Type 0} (moves : Moves D) (meaning : D → Meaning) (f : Format) (s : ℕ) (start : D) (r : Ring) (d : D) (search : Searching f s (meaning start) r (meaning d)) (numbers : top f (meaning start).reading + 8 ≤ LAST_SEQUENCE) (rest : GoesOn moves meaning f s start (steps_left f s (meaning start) (meaning d)) d) where
   own : Searching r.format s (meaning start) r (meaning d)
   own = subst (λ (x : Format). Searching x s (meaning start) r (meaning d)) (sym search.format) search
 
-  own_numbers : top r.format (meaning start).reading + 8 < 2 ^ 62
-  own_numbers = subst (λ (x : Format). top x (meaning start).reading + 8 < 2 ^ 62) (sym search.format) numbers
+  own_numbers : top r.format (meaning start).reading + 8 ≤ LAST_SEQUENCE
+  own_numbers = subst (λ (x : Format). top x (meaning start).reading + 8 ≤ LAST_SEQUENCE) (sym search.format) numbers
 
   own_rest : GoesOn moves meaning r.format s start (steps_left r.format s (meaning start) (meaning d)) d
   own_rest =

@@ -1,6 +1,7 @@
 -- The last write of a reservation, as a disk's own relations take it over.
-use Rattle.std.proofs.Common.{◌≡◌, ℕ, zero, suc, ◌+◌, ◌^◌, ◌<◌, List, [], ◌∷◌, Err, sym, refl, ap, ◌∙◌, subst, arith}
+use Rattle.std.proofs.Common.{◌≤◌, ◌≡◌, ℕ, zero, suc, ◌+◌, ◌<◌, List, [], ◌∷◌, Err, sym, refl, ap, ◌∙◌, subst, arith}
 use Rattle.std.proofs.lemmas.Grind.{common_steps}
+use Rattle.record.specs.declared.sector.TheConstants.{LAST_SEQUENCE}
 use Rattle.record.specs.Sector.{encoded}
 use Rattle.record.specs.declared.numbers.Rank.{Rank}
 use Rattle.record.specs.declared.sector.Format.{Format}
@@ -22,11 +23,11 @@ tried_last f step zero = refl
 tried_last f step (suc n) = refl
 
 -- the write of the reservation once the search has ended, by the ring's own format
-module _ {D : Type 0} (moves : Moves D) (meaning : D → Meaning) (s : ℕ) (end : Rank) (start : D) (r : Ring) (d : D) (cleared : Cleared r.format s (meaning start) r (meaning d)) (numbers : top r.format (meaning start).reading + 8 < 2 ^ 62) (rest : GoesOn moves meaning r.format s start (λ e. reserving r.format (meaning d).reading s e ∷ []) d) (d' : D) (wrote : moves.writes d (known_gap r) (encoded r.format.tag (next_of r s end)) d') where
+module _ {D : Type 0} (moves : Moves D) (meaning : D → Meaning) (s : ℕ) (end : Rank) (start : D) (r : Ring) (d : D) (cleared : Cleared r.format s (meaning start) r (meaning d)) (numbers : top r.format (meaning start).reading + 8 ≤ LAST_SEQUENCE) (rest : GoesOn moves meaning r.format s start (λ e. reserving r.format (meaning d).reading s e ∷ []) d) (d' : D) (wrote : moves.writes d (known_gap r) (encoded r.format.tag (next_of r s end)) d') where
   abbrev m : Meaning
   m = meaning d
 
-  low : top r.format m.reading < 2 ^ 62
+  low : top r.format m.reading ≤ LAST_SEQUENCE
   low = omega (arith, cleared.near)
 
   abbrev last : Step
@@ -59,12 +60,12 @@ module _ {D : Type 0} (moves : Moves D) (meaning : D → Meaning) (s : ℕ) (end
       (d', put_there, (after, subst (λ (i : ℕ). moves.flushes d' i after) (knows_gap r m cleared.agrees low) flushed, refl)))
 
 -- the same by the format that the search began with
-module _ {D : Type 0} (moves : Moves D) (meaning : D → Meaning) (f : Format) (s : ℕ) (end : Rank) (start : D) (r : Ring) (d : D) (cleared : Cleared f s (meaning start) r (meaning d)) (numbers : top f (meaning start).reading + 8 < 2 ^ 62) (rest : GoesOn moves meaning f s start (λ e. reserving f (meaning d).reading s e ∷ []) d) (d' : D) (wrote : moves.writes d (known_gap r) (encoded r.format.tag (next_of r s end)) d') where
+module _ {D : Type 0} (moves : Moves D) (meaning : D → Meaning) (f : Format) (s : ℕ) (end : Rank) (start : D) (r : Ring) (d : D) (cleared : Cleared f s (meaning start) r (meaning d)) (numbers : top f (meaning start).reading + 8 ≤ LAST_SEQUENCE) (rest : GoesOn moves meaning f s start (λ e. reserving f (meaning d).reading s e ∷ []) d) (d' : D) (wrote : moves.writes d (known_gap r) (encoded r.format.tag (next_of r s end)) d') where
   own : Cleared r.format s (meaning start) r (meaning d)
   own = subst (λ (x : Format). Cleared x s (meaning start) r (meaning d)) (sym cleared.format) cleared
 
-  own_numbers : top r.format (meaning start).reading + 8 < 2 ^ 62
-  own_numbers = subst (λ (x : Format). top x (meaning start).reading + 8 < 2 ^ 62) (sym cleared.format) numbers
+  own_numbers : top r.format (meaning start).reading + 8 ≤ LAST_SEQUENCE
+  own_numbers = subst (λ (x : Format). top x (meaning start).reading + 8 ≤ LAST_SEQUENCE) (sym cleared.format) numbers
 
   own_rest : GoesOn moves meaning r.format s start (λ e. reserving r.format (meaning d).reading s e ∷ []) d
   own_rest =

@@ -1,6 +1,7 @@
 -- What a cut leaves of a whole reservation, wherever the current fails in it.
-use Rattle.std.proofs.Common.{◌≡◌, ℕ, zero, suc, ◌+◌, ◌*◌, ◌^◌, ◌<◌, ◌≤◌, ◌≢◌, ◌⊎◌, List, [], ◌∷◌, length, set, Some, None, Option, sym, refl, ap, ◌∙◌, subst, inl, inr, ⊎_elim, arith}
+use Rattle.std.proofs.Common.{◌≡◌, ℕ, zero, suc, ◌+◌, ◌*◌, ◌<◌, ◌≤◌, ◌≢◌, ◌⊎◌, List, [], ◌∷◌, length, set, Some, None, Option, sym, refl, ap, ◌∙◌, subst, inl, inr, ⊎_elim, arith}
 use Rattle.std.proofs.lemmas.Bool.{cases_eq}
+use Rattle.record.specs.declared.sector.TheConstants.{LAST_SEQUENCE}
 use Rattle.record.specs.Sector.{encoded}
 use Rattle.record.specs.declared.sector.Format.{Format}
 use Rattle.record.specs.declared.sector.Record.{Record}
@@ -151,7 +152,7 @@ carry_ends f reading recovers s q e w t =
     own.1 ∙ sym (ap (end_of f reading) own.0 ∙ ap (λ (l : Live). l.end.0) (carried-live f reading recovers s q e)))
     (ends-written f reading recovers q.series q.end.0 w (carry_clear f reading s q e) t)
 
-module _ (f : Format) (s end start : ℕ) (series : s < 8) (some : 1 ≤ end) (upper : end ≤ f.top.0 + 1) (numbers : start + 8 < 2 ^ 62) where
+module _ (f : Format) (s end start : ℕ) (series : s < 8) (some : 1 ≤ end) (upper : end ≤ f.top.0 + 1) (numbers : start + 8 ≤ LAST_SEQUENCE) where
   -- a reservation under way between two of its writes, with at most n carries to come
   record State (n : ℕ) (m : Meaning) : Type 0 where
     path : Path f s start n m.reading

@@ -1,6 +1,7 @@
 -- The plan of a reservation is what the rule asks for: after each carry fewer are left, and seven at most.
-use Rattle.std.proofs.Common.{◌≡◌, ℕ, zero, suc, ◌+◌, ◌^◌, ◌<◌, ◌≤◌, List, length, set, Some, None, Option, sym, refl, ap, subst, arith}
+use Rattle.std.proofs.Common.{◌≡◌, ℕ, zero, suc, ◌+◌, ◌<◌, ◌≤◌, List, length, set, Some, None, Option, sym, refl, ap, subst, arith}
 use Rattle.std.proofs.lemmas.List.FromFn.{length-map-range_with_len}
+use Rattle.record.specs.declared.sector.TheConstants.{LAST_SEQUENCE}
 use Rattle.record.specs.declared.sector.Format.{Format}
 use Rattle.record.specs.declared.sector.Record.{Record}
 use Rattle.ring.specs.Left.{Recovers, SevenCarries, Follows, stops, carries}
@@ -39,7 +40,7 @@ path_begins f s reading recovers series =
       fuel = omega arith;
     }
 
-module _ (f : Format) (s start : ℕ) (numbers : start + 8 < 2 ^ 62) where
+module _ (f : Format) (s start : ℕ) (numbers : start + 8 ≤ LAST_SEQUENCE) where
   -- a carry: one fewer is to come
   module _ (n : ℕ) (reading : List (List ℕ)) (path : Path f s start n reading) (q : Record) (e : carried f reading s ≡ Some q) where
     fewer : left start s 0 (set (known f reading).lives q.series (live_of (next f reading q.series q.end.0))) + 1 ≡ left start s 0 (known f reading).lives

@@ -2,6 +2,7 @@
 use Rattle.std.proofs.Common.{◌≡◌, ℕ, zero, suc, ◌+◌, ◌-◌, ◌^◌, ◌<◌, ◌≤◌, min, Bool, true, false, cond, ◌&&◌, eqb, leb, List, length, Some, None, Ok, Err, Option, sym, refl, ap, ◌∙◌, subst, ⊎_elim, arith}
 use Rattle.std.proofs.lemmas.Nat.{mod_below}
 use Rattle.std.proofs.lemmas.Bool.{cases_eq, ne_eqb, le-leb, lt-ltb}
+use Rattle.record.specs.declared.sector.TheConstants.{LAST_SEQUENCE}
 use Rattle.record.specs.Sector.{content}
 use Rattle.record.specs.declared.sector.Content.{Content}
 use Rattle.record.specs.declared.sector.Content.TheVariants.{Blank, Foreign, Record as Holds}
@@ -16,7 +17,7 @@ use Rattle.ring.proofs.Scans.{found_at}
 use Rattle.ring.proofs.Slots.{placed, slot-holds, top-held}
 
 -- the top of any sectors is below the last number
-pub top_low : (f : Format) (reading : List (List ℕ)) → top f reading < 2 ^ 62
+pub top_low : (f : Format) (reading : List (List ℕ)) → top f reading ≤ LAST_SEQUENCE
 top_low f reading =
     ⊎_elim (λ z. omega arith) (λ h. omega (arith, h.2, (placed f reading h.1.at_sector h.0 h.1.holds).last)) (top-held f reading)
 

@@ -1,6 +1,7 @@
 -- A reservation from the end of its search: written and flushed, or stopped at one of the two.
-use Rattle.std.proofs.Common.{◌≡◌, ℕ, suc, ◌+◌, ◌^◌, ◌<◌, ◌≤◌, List, [], ◌∷◌, None, Ok, Err, Option, Result, MatchResult, sym, refl, ap, ◌∙◌, subst, arith}
+use Rattle.std.proofs.Common.{◌≡◌, ℕ, suc, ◌+◌, ◌<◌, ◌≤◌, List, [], ◌∷◌, None, Ok, Err, Option, Result, MatchResult, sym, refl, ap, ◌∙◌, subst, arith}
 use Rattle.std.proofs.lemmas.Grind.{common_steps}
+use Rattle.record.specs.declared.sector.TheConstants.{LAST_SEQUENCE}
 use Rattle.record.specs.Sector.{encoded}
 use Rattle.record.specs.declared.numbers.Rank.{Rank}
 use Rattle.record.specs.declared.sector.Format.{Format}
@@ -30,8 +31,8 @@ pub may_search : (r : Ring) (m : Meaning) (s : ℕ) (end : Rank) → MayReserve 
 may_search r m s end may = grind arith
 
 -- from a search that has ended
-module _ (s : ℕ) (end : Rank) (whole : Meaning) (r : Ring) (m : Meaning) (cleared : Cleared r.format s whole r m) (series : s < 8) (numbers : top r.format whole.reading + 8 < 2 ^ 62) (some : 1 ≤ end.0) (ends : end.0 ≤ r.format.top.0 + 1) where
-  low : top r.format m.reading < 2 ^ 62
+module _ (s : ℕ) (end : Rank) (whole : Meaning) (r : Ring) (m : Meaning) (cleared : Cleared r.format s whole r m) (series : s < 8) (numbers : top r.format whole.reading + 8 ≤ LAST_SEQUENCE) (some : 1 ≤ end.0) (ends : end.0 ≤ r.format.top.0 + 1) where
+  low : top r.format m.reading ≤ LAST_SEQUENCE
   low = omega (arith, cleared.near)
 
   writable : Writable r.format m.reading s end.0
@@ -107,12 +108,12 @@ pub work_and_fault : (work : Work) (answer : Result (Unit {0}) DiskFault) (x : S
 work_and_fault work answer x e = grind arith
 
 -- the same by the format that the search began with
-module _ (f : Format) (s : ℕ) (end : Rank) (whole : Meaning) (r : Ring) (m : Meaning) (cleared : Cleared f s whole r m) (series : s < 8) (numbers : top f whole.reading + 8 < 2 ^ 62) (some : 1 ≤ end.0) (ends : end.0 ≤ f.top.0 + 1) where
+module _ (f : Format) (s : ℕ) (end : Rank) (whole : Meaning) (r : Ring) (m : Meaning) (cleared : Cleared f s whole r m) (series : s < 8) (numbers : top f whole.reading + 8 ≤ LAST_SEQUENCE) (some : 1 ≤ end.0) (ends : end.0 ≤ f.top.0 + 1) where
   own : Cleared r.format s whole r m
   own = subst (λ (x : Format). Cleared x s whole r m) (sym cleared.format) cleared
 
-  own_numbers : top r.format whole.reading + 8 < 2 ^ 62
-  own_numbers = subst (λ (x : Format). top x whole.reading + 8 < 2 ^ 62) (sym cleared.format) numbers
+  own_numbers : top r.format whole.reading + 8 ≤ LAST_SEQUENCE
+  own_numbers = subst (λ (x : Format). top x whole.reading + 8 ≤ LAST_SEQUENCE) (sym cleared.format) numbers
 
   own_ends : end.0 ≤ r.format.top.0 + 1
   own_ends = subst (λ (x : Format). end.0 ≤ x.top.0 + 1) (sym cleared.format) ends

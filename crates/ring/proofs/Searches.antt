@@ -1,8 +1,9 @@
 -- One turn of the search: a carry leads on, darkness stops it, and where nothing is to be carried it ends.
-use Rattle.std.proofs.Common.{◌≡◌, ℕ, suc, ◌+◌, ◌-◌, ◌^◌, ◌<◌, ◌≤◌, cond, eqb, List, [], ◌∷◌, length, set, Some, None, Ok, Err, Result, sym, refl, ap, ◌∙◌, subst, arith}
+use Rattle.std.proofs.Common.{◌≡◌, ℕ, suc, ◌+◌, ◌-◌, ◌<◌, ◌≤◌, cond, eqb, List, [], ◌∷◌, length, set, Some, None, Ok, Err, Result, sym, refl, ap, ◌∙◌, subst, arith}
 use Rattle.std.proofs.lemmas.Grind.{common_steps}
 use Rattle.std.proofs.lemmas.List.FromFn.{length-map-range_with_len}
 use Rattle.std.proofs.lemmas.Bool.{lt-ltb}
+use Rattle.record.specs.declared.sector.TheConstants.{LAST_SEQUENCE}
 use Rattle.record.specs.Sector.{encoded}
 use Rattle.record.specs.declared.numbers.Rank.{Rank}
 use Rattle.record.specs.declared.sector.Format.{Format}
@@ -45,7 +46,7 @@ unfolding plan
 plan_carries f n s end reading r e = ap (first_then f reading s end (λ q. plan f n s end (with_record f reading q))) e
 
 -- the ring knows the gap and the next record
-module _ (r : Ring) (m : Meaning) (a : Agrees r m) (low : top r.format m.reading < 2 ^ 62) where
+module _ (r : Ring) (m : Meaning) (a : Agrees r m) (low : top r.format m.reading ≤ LAST_SEQUENCE) where
   pub knows_gap : known_gap r ≡ gap r.format m.reading
   knows_gap = grind arith
 
@@ -102,8 +103,8 @@ by_supply operation i fault p h = grind arith
 pub told-dark : (operation : Operation) (m : Meaning) (i : ℕ) (fault : DiskFault) → i < count m → answer_of operation m i ≡ Err fault → (m.supply ≡ 0) × (fault ≡ denied Dark operation i)
 told-dark operation m i fault l e = by_supply operation i fault m.supply (rw (lt-ltb i (count m) l) at e)
 
-module _ (s : ℕ) (whole : Meaning) (r : Ring) (m : Meaning) (search : Searching r.format s whole r m) (numbers : top r.format whole.reading + 8 < 2 ^ 62) where
-  low : top r.format m.reading < 2 ^ 62
+module _ (s : ℕ) (whole : Meaning) (r : Ring) (m : Meaning) (search : Searching r.format s whole r m) (numbers : top r.format whole.reading + 8 ≤ LAST_SEQUENCE) where
+  low : top r.format m.reading ≤ LAST_SEQUENCE
   low = omega (arith, search.few)
 
   -- nothing to carry: the search ends

@@ -1,5 +1,6 @@
 -- One turn of the code's loop, by what it looked at.
 use Rattle.std.proofs.Common.{◌≡◌, ℕ, ◌+◌, ◌^◌, ◌<◌, ◌≤◌, ◌≢◌, length, set, Some, None, Ok, Option, Result, sym, ap, ◌∙◌, subst, ⊎_elim, arith}
+use Rattle.record.specs.declared.sector.TheConstants.{LAST_SEQUENCE}
 use Rattle.record.specs.Sector.{content}
 use Rattle.record.specs.declared.numbers.Rank.{Rank}
 use Rattle.record.specs.declared.sector.Content.{Content}
@@ -48,21 +49,21 @@ carries_less k k' s start r eight small since carries e =
     let same = ap (left start s 0) lives in
     omega arith
 
-module _ (f : Format) (s : ℕ) (whole : Meaning) (r : Ring) (m : Meaning) (search : Searching f s whole r m) (numbers : top f whole.reading + 8 < 2 ^ 62) where
+module _ (f : Format) (s : ℕ) (whole : Meaning) (r : Ring) (m : Meaning) (search : Searching f s whole r m) (numbers : top f whole.reading + 8 ≤ LAST_SEQUENCE) where
   -- by the ring's own format
   own : Searching r.format s whole r m
   own = subst (λ (x : Format). Searching x s whole r m) (sym search.format) search
 
-  own_numbers : top r.format whole.reading + 8 < 2 ^ 62
-  own_numbers = subst (λ (x : Format). top x whole.reading + 8 < 2 ^ 62) (sym search.format) numbers
+  own_numbers : top r.format whole.reading + 8 ≤ LAST_SEQUENCE
+  own_numbers = subst (λ (x : Format). top x whole.reading + 8 ≤ LAST_SEQUENCE) (sym search.format) numbers
 
-  low : top r.format m.reading < 2 ^ 62
+  low : top r.format m.reading ≤ LAST_SEQUENCE
   low = omega (arith, own.few, own_numbers)
 
   -- the code finds what the rule carries
   pub turn_finds :
       (start : ℕ) (c : Content) (x : Option Record) → start ≡ top f whole.reading →
-      (Agrees r m → top r.format m.reading < 2 ^ 62 → ◌≡◌ {A = Result Content DiskFault} (Ok c) (Ok (content r.format (beyond r.format m.reading) (at m.reading (beyond r.format m.reading))))) →
+      (Agrees r m → top r.format m.reading ≤ LAST_SEQUENCE → ◌≡◌ {A = Result Content DiskFault} (Ok c) (Ok (content r.format (beyond r.format m.reading) (at m.reading (beyond r.format m.reading))))) →
       x ≡ carry_of r.known s start c →
       carried r.format m.reading s ≡ x
   turn_finds start c x begun look tells =

@@ -1,5 +1,6 @@
 -- What a cut leaves of a ring, in terms of what its sectors read.
-use Rattle.std.specs.Prelude.{◌≡◌, ℕ, ◌+◌, ◌*◌, ◌^◌, ◌<◌, ◌≤◌, min, ◌≢◌, ◌⊎◌, List, [], ◌∷◌, length, Some, None, Ok, Err}
+use Rattle.std.specs.Prelude.{◌≡◌, ℕ, ◌+◌, ◌*◌, ◌<◌, ◌≤◌, min, ◌≢◌, ◌⊎◌, List, [], ◌∷◌, length, Some, None, Ok, Err}
+use Rattle.record.specs.declared.sector.TheConstants.{LAST_SEQUENCE}
 use Rattle.record.specs.declared.sector.Format.{Format}
 use Rattle.record.specs.declared.sector.Record.{Record}
 use Rattle.disk.specs.Meaning.{Meaning, Cut}
@@ -39,7 +40,7 @@ pub record ReservedUpTo (f : Format) (s end : ℕ) (before after : List (List �
 pub record HasRoom (f : Format) (s : ℕ) (reading : List (List ℕ)) : Type 0 where
   pub recovers : Recovers f reading
   pub series : s < 8
-  pub numbers : top f reading + 8 < 2 ^ 62
+  pub numbers : top f reading + 8 ≤ LAST_SEQUENCE
 
 -- a reservation that may be made on sectors that recover, all of them kept
 pub record LawfulReservation (f : Format) (s end : ℕ) (m : Meaning) : Type 0 where
@@ -48,7 +49,7 @@ pub record LawfulReservation (f : Format) (s end : ℕ) (m : Meaning) : Type 0 w
   pub series : s < 8
   pub some : 1 ≤ end
   pub ends : end ≤ f.top.0 + 1
-  pub numbers : top f m.reading + 8 < 2 ^ 62
+  pub numbers : top f m.reading + 8 ≤ LAST_SEQUENCE
 
 -- wherever the current fails in a reservation, and whatever the cut leaves, the ring recovers with the old ends or the
 -- new one

@@ -8,6 +8,7 @@ use Rattle.record.specs.declared.sector.Content.TheVariants.{Blank, Foreign, Rec
 use Rattle.record.specs.declared.sector.Format.{Format}
 use Rattle.record.specs.declared.sector.Record.{Record}
 use Rattle.disk.specs.Meaning.{Meaning, at}
+use Rattle.disk.specs.declared.size.TheConstants.{LEAST_SECTORS, MOST_SECTORS}
 use Rattle.ring.specs.declared.fault.RingFault.{RingFault}
 use Rattle.ring.specs.declared.fault.RingFault.TheVariants.{Size, Foreign as Foreign', LiveInGap}
 use Rattle.ring.specs.declared.fault.Work.{Work}
@@ -88,8 +89,8 @@ is_live f reading r = r.sequence.0 == (live f reading r.series).number.0
 -- the format fits the sectors: there are as many as it says, 10 to 2,048, and its tag and top are what a kind may have
 pub record Sized (f : Format) (reading : List (List ℕ)) : Type 0 where
   pub count : f.sectors ≡ length reading
-  pub least : 10 ≤ length reading
-  pub most : length reading ≤ 2048
+  pub least : LEAST_SECTORS ≤ length reading
+  pub most : length reading ≤ MOST_SECTORS
   pub tags : f.tag < 256
   pub tops : f.top.0 < 2 ^ 53
 
@@ -251,6 +252,6 @@ settled f reading (Ok k) =
 -- what recovery answers
 abbrev pub recovered : Format → List (List ℕ) → Result Ring RingFault
 recovered f reading =
-    if nat_le 10 f.sectors && nat_le f.sectors 2048
+    if nat_le LEAST_SECTORS f.sectors && nat_le f.sectors MOST_SECTORS
     then settled f reading (scanned f reading (foreign_below f reading (length reading)))
     else Err (Size f.sectors)

@@ -1,5 +1,5 @@
 -- The search for the gap that a reservation goes to, and the reservation after it, with what it is refused for.
-use Rattle.std.specs.Prelude.{◌≡◌, ℕ, ◌+◌, ◌-◌, ◌^◌, ◌<◌, ◌≤◌, if◌then◌else◌, ◌&&◌, List, [], ◌∷◌, Some, None, Ok, Err, Option, Result, nat_le, nat_lt}
+use Rattle.std.specs.Prelude.{◌≡◌, ℕ, ◌+◌, ◌-◌, ◌<◌, ◌≤◌, if◌then◌else◌, ◌&&◌, List, [], ◌∷◌, Some, None, Ok, Err, Option, Result, nat_le, nat_lt}
 use Rattle.record.specs.declared.sector.TheConstants.{LAST_SEQUENCE}
 use Rattle.record.specs.declared.numbers.Rank.{Rank}
 use Rattle.record.specs.declared.sector.Format.{Format}
@@ -60,7 +60,7 @@ module _ {D : Type 0} (moves : Moves D) (meaning : D → Meaning) where
 pub record MaySearch (r : Ring) (m : Meaning) (s : ℕ) : Type 0 where
   pub agrees : Agrees r m
   pub series : s < 8
-  pub numbers : top r.format m.reading + 8 < 2 ^ 62
+  pub numbers : top r.format m.reading + 8 ≤ LAST_SEQUENCE
 
 -- a reservation: the ranks of a series from its end as the sectors read up to a new end
 abbrev pub reservation : Format → List (List ℕ) → ℕ → Rank → Reserved
@@ -108,6 +108,6 @@ admitted asked (Some fault) = Err fault
 pub record MayReserve (r : Ring) (m : Meaning) (s : ℕ) (end : Rank) : Type 0 where
   pub agrees : Agrees r m
   pub series : s < 8
-  pub numbers : top r.format m.reading + 8 < 2 ^ 62
+  pub numbers : top r.format m.reading + 8 ≤ LAST_SEQUENCE
   pub some : 1 ≤ end.0
   pub ends : end.0 ≤ r.format.top.0 + 1

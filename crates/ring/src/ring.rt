@@ -1,5 +1,5 @@
 // The ring over any disk.
-ghost use Rattle.std.specs.Prelude.{◌≡◌, ℕ, [], ◌∷◌, ◌+◌, ◌^◌, ◌<◌, IfOk, IfErr, Some, None, Ok, Err, MatchResult, slice_set};
+ghost use Rattle.std.specs.Prelude.{◌≡◌, ℕ, [], ◌∷◌, ◌+◌, ◌^◌, ◌<◌, ◌≤◌, IfOk, IfErr, Some, None, Ok, Err, MatchResult, slice_set};
 ghost use Rattle.ring.specs.Token.{empty_blocks};
 ghost use Rattle.ring.specs.Left.{end_of, ReservationLaws, TopsCounted};
 ghost use Rattle.ring.specs.Faults.{with_work};
@@ -121,7 +121,7 @@ impl Ring {
         ensures agrees { let f = self.now.format in
             let m = D.meaning disk.now in
             let i = beyond f m.reading in
-            Agrees self.now m → top f m.reading < 2 ^ 62 →
+            Agrees self.now m → top f m.reading ≤ LAST_SEQUENCE →
             result ≡ Ok (content f i (at m.reading i)) }
     {
         let sector = sector_of(self.known.top.0.saturating_add(2), self.format.sectors);
@@ -188,7 +188,7 @@ impl Ring {
 
     // Looks at the sector after the gap, and carries what is live there of another series, until nothing is; tells the gap.
     fn clear_the_way<D: Disk>(&mut self, disk: &mut D, series: u8) -> Result<usize, RingFault>
-        requires { self.old.known.top.0 + 8 < 2 ^ 62 }
+        requires { self.old.known.top.0 + 8 ≤ LAST_SEQUENCE }
         ensures gap { IfOk result (λ gap. gap ≡ known_gap self.new) }
         ensures search { let f = self.old.format in
             let m = D.meaning disk.old in
@@ -220,7 +220,7 @@ impl Ring {
 
     // Clears the way and writes the reservation, which is then to be confirmed or given up.
     fn begin<D: Disk>(&mut self, disk: &mut D, claim: Claim) -> Result<Written, RingFault>
-        requires { self.old.known.top.0 + 8 < 2 ^ 62 }
+        requires { self.old.known.top.0 + 8 ≤ LAST_SEQUENCE }
         ensures begins { let f = self.old.format in
             let m = D.meaning disk.old in
             let after = D.meaning disk.new in
