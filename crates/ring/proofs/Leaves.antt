@@ -7,12 +7,13 @@ use Rattle.record.specs.declared.sector.Format.{Format}
 use Rattle.record.specs.declared.sector.Record.{Record}
 use Rattle.disk.specs.Meaning.{Meaning, Wrote, Flushed, Cut}
 use Rattle.disk.specs.declared.fault.Operation.TheVariants.{Write, Flush}
-use Rattle.ring.specs.Left.{Recovers, end_of, LawfulReservation, CutWithin, ReservedWhole, OperationsCounted, TopsCounted, ReservationLaws}
+use Rattle.ring.specs.Left.{Recovers, end_of, LawfulReservation, AtMostSoMany, CutWithin, ReservedWhole, OperationsCounted, TopsCounted, ReservationLaws}
 use Rattle.ring.specs.Operations.{Went, performed, outcome, writes_in, dark}
 use Rattle.ring.specs.Ring.{top, live, live_of, gap, beyond, carried, next, with_record, reserving, carrying, plan, Step}
 use Rattle.ring.specs.declared.fault.Work.{Work}
 use Rattle.ring.specs.declared.fault.Work.TheVariants.{Carry, Reservation}
 use Rattle.ring.specs.declared.known.Live.{Live}
+use Rattle.ring.specs.declared.token.Reserved.{Reserved}
 use Rattle.ring.proofs.Carries.{carry_clear}
 use Rattle.ring.proofs.Cuts.{cut_at_rest, cut_unflushed, recovers_blanked, top_blanked, live_blanked}
 use Rattle.ring.proofs.Knows.{carried_is, clear_from}
@@ -438,6 +439,11 @@ operations_counted f value (step ∷ steps) (suc zero) = (omega arith, λ h. abs
 operations_counted f value (step ∷ steps) (suc (suc p)) =
     let rest = operations_counted f value steps p in
     (omega (arith, rest.0), λ h. rest.1 (omega arith), λ h. rest.2 (omega arith))
+
+pub at_most_sixteen : AtMostSoMany 16
+at_most_sixteen f s end supply reading room =
+    let value : Reserved = record { series = s; start = record { 0 = 0 }; end = record { 0 = end } } in
+    omega (arith, (operations_counted f value (plan f 7 s end reading) supply).0, (seven_carries f s end reading room).1)
 
 pub reservation_laws : ReservationLaws
 reservation_laws =

@@ -91,6 +91,12 @@ SevenCarries =
     (f : Format) (s end : ℕ) (reading : List (List ℕ)) → HasRoom f s reading →
     Follows f s end reading (plan f 7 s end reading) × (length (plan f 7 s end reading) ≤ 8)
 
+-- no reservation has more writes and flushes than this
+abbrev pub AtMostSoMany : ℕ → Type 0
+AtMostSoMany most =
+    (f : Format) (s end supply : ℕ) (reading : List (List ℕ)) → HasRoom f s reading →
+    length (performed f (plan f 7 s end reading) supply) ≤ most
+
 -- with k carries a reservation takes 2 × (k + 1) writes and flushes; with that supply it succeeds, and with less it is
 -- stopped
 abbrev pub OperationsCounted : Type 0

@@ -1,7 +1,7 @@
 // The ring over any disk.
 ghost use Rattle.std.specs.Prelude.{◌≡◌, ℕ, [], ◌∷◌, ◌+◌, ◌^◌, ◌<◌, ◌≤◌, IfOk, IfErr, Some, None, Ok, Err, MatchResult, slice_set};
 ghost use Rattle.ring.specs.Token.{empty_blocks};
-ghost use Rattle.ring.specs.Left.{end_of, ReservationLaws, TopsCounted};
+ghost use Rattle.ring.specs.Left.{end_of, AtMostSoMany, ReservationLaws, TopsCounted};
 ghost use Rattle.ring.specs.Faults.{with_work};
 ghost use Rattle.disk.specs.Meaning.{Meaning, at, count, answer_of};
 ghost use Rattle.disk.specs.declared.fault.Operation.TheVariants.{Write};
@@ -50,12 +50,10 @@ fn scan<D: Disk>(disk: &D, format: Format) -> Result<Known, RingFault>
     Ok(known)
 }
 
-// The most writes and flushes of one reservation: seven carries and the reservation itself, two for each. Its clauses are the
-// laws of a reservation.
+// The most writes and flushes of one reservation: seven carries and the reservation itself, two for each.
 pub fn most_operations() -> u64
     ensures value { result ≡ 16 }
-    ensures laws { ReservationLaws }
-    ensures tops { TopsCounted }
+    ensures most { AtMostSoMany result }
 {
     2 * (7 + 1)
 }
@@ -263,6 +261,7 @@ impl Ring {
     }
 
     // Reserves the ranks of a series up to a new end: carries what is in the way, writes the reservation and flushes it.
+    #[tactic(auto, using(crate::proofs::Leaves::reservation_laws, crate::proofs::Leaves::tops_counted))]
     pub fn reserve<D: Disk>(
         &mut self,
         disk: &mut D,
@@ -288,6 +287,8 @@ impl Ring {
             let start = known_end self.old.known series in
             let value : Reserved = record { series = series; start = start; end = end } in
             RunsUnlessRefused D.moves D.meaning refused value self.old disk.old result self.new disk.new }
+        ensures laws { ReservationLaws }
+        ensures tops { TopsCounted }
     {
         let claim = self.admit(series, end)?;
         let written = self.begin(disk, claim)?;
