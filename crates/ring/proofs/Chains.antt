@@ -10,7 +10,7 @@ use Rattle.disk.specs.Moves.{Moves}
 use Rattle.disk.specs.declared.fault.DiskFault.{DiskFault}
 use Rattle.disk.specs.declared.fault.Operation.TheVariants.{Write}
 use Rattle.ring.specs.Operations.{Op, put, settle, tried, write_and_flush, Chain, Writes, Denied}
-use Rattle.ring.specs.Ring.{top, carried, gap, next, reserving, plan, known_gap, next_of, Step}
+use Rattle.ring.specs.Ring.{top, next_carry, gap, next, reservation_step, plan, known_gap, next_of, Step}
 use Rattle.ring.specs.Search.{GoesOn, Tried}
 use Rattle.ring.specs.declared.ring.Ring.{Ring}
 use Rattle.ring.proofs.Searches.{Searching, plan-ends, knows_gap, knows_next, tried_on, tried_at_write, tried_at_flush}
@@ -34,12 +34,12 @@ module _ {D : Type 0} (moves : Moves D) (meaning : D → Meaning) (s : ℕ) (sta
   low : top r.format m.reading ≤ LAST_SEQUENCE
   low = omega (arith, search.few)
 
-  ends : carried r.format m.reading s ≡ None → GoesOn moves meaning r.format s start (λ end. reserving r.format m.reading s end ∷ []) d
+  ends : next_carry r.format m.reading s ≡ None → GoesOn moves meaning r.format s start (λ end. reservation_step r.format m.reading s end ∷ []) d
   ends e end after chain =
       rest end after
       (subst (λ (steps : List Step). Chain moves d (tried r.format steps m.supply) after) (sym (plan-ends r.format _ s end m.reading e)) chain)
 
-  module _ (q : Record) (e : carried r.format m.reading s ≡ Some q) where
+  module _ (q : Record) (e : next_carry r.format m.reading s ≡ Some q) where
     abbrev bytes : List ℕ
     bytes = encoded r.format.tag (next_of r q.series q.end)
 
@@ -92,12 +92,12 @@ module _ {D : Type 0} (moves : Moves D) (meaning : D → Meaning) (f : Format) (
   own_rest =
       subst (λ (x : Format). GoesOn moves meaning x s start (steps_left x s (meaning start) (meaning d)) d) (sym search.format) rest
 
-  pub chain_ends : carried r.format (meaning d).reading s ≡ None → GoesOn moves meaning f s start (λ end. reserving f (meaning d).reading s end ∷ []) d
+  pub chain_ends : next_carry r.format (meaning d).reading s ≡ None → GoesOn moves meaning f s start (λ end. reservation_step f (meaning d).reading s end ∷ []) d
   chain_ends e =
-      subst (λ (x : Format). GoesOn moves meaning x s start (λ end. reserving x (meaning d).reading s end ∷ []) d) search.format
+      subst (λ (x : Format). GoesOn moves meaning x s start (λ end. reservation_step x (meaning d).reading s end ∷ []) d) search.format
       (ends moves meaning s start r d own own_numbers own_rest e)
 
-  module _ (q : Record) (e : carried r.format (meaning d).reading s ≡ Some q) (d' : D) (chain : Chain moves d (write_and_flush (known_gap r) (encoded r.format.tag (next_of r q.series q.end)) (answer_of Write (meaning d) (known_gap r))) d') (r' : Ring) where
+  module _ (q : Record) (e : next_carry r.format (meaning d).reading s ≡ Some q) (d' : D) (chain : Chain moves d (write_and_flush (known_gap r) (encoded r.format.tag (next_of r q.series q.end)) (answer_of Write (meaning d) (known_gap r))) d') (r' : Ring) where
     pub chain_goes_on :
         (between : Meaning) → Writes r (meaning d) q.series q.end r' between → Flushed between (meaning d') →
         GoesOn moves meaning f s start (steps_left f s (meaning start) (meaning d')) d'

@@ -9,7 +9,7 @@ use Rattle.disk.specs.Meaning.{Meaning, Wrote, Flushed, Cut}
 use Rattle.disk.specs.declared.fault.Operation.TheVariants.{Write, Flush}
 use Rattle.ring.specs.Left.{Recovers, end_of, LawfulReservation, AtMostSoMany, CutWithin, ReservedWhole, OperationsCounted, TopsCounted, ReservationLaws}
 use Rattle.ring.specs.Operations.{Went, performed, outcome, writes_in, dark}
-use Rattle.ring.specs.Ring.{top, live, live_of, gap, beyond, carried, next, with_record, reserving, carrying, plan, Step}
+use Rattle.ring.specs.Ring.{top, live, live_of, gap, beyond, next_carry, next, with_record, reservation_step, carry_step, plan, Step}
 use Rattle.ring.specs.declared.fault.Work.{Work}
 use Rattle.ring.specs.declared.fault.Work.TheVariants.{Carry, Reservation}
 use Rattle.ring.specs.declared.known.Live.{Live}
@@ -87,7 +87,7 @@ module _ (f : Format) (reading : List (List ℕ)) (recovers : Recovers f reading
       }
 
 -- a carried record keeps its series' end
-carried-live : (f : Format) (reading : List (List ℕ)) (recovers : Recovers f reading) (s : ℕ) (q : Record) → carried f reading s ≡ Some q → live f reading q.series ≡ live_of q
+carried-live : (f : Format) (reading : List (List ℕ)) (recovers : Recovers f reading) (s : ℕ) (q : Record) → next_carry f reading s ≡ Some q → live f reading q.series ≡ live_of q
 carried-live f reading recovers s q e =
     let c = carried_is f reading s q e in
     live_is f reading q.series (live_of q)
@@ -142,11 +142,11 @@ went_none f m after p went = went
 -- what is left after a carry, by what is read then
 rest_from :
     (f : Format) (s end n : ℕ) (m after : Meaning) (q : Record)
-    (d : Done f m after (carrying f m.reading q) (plan f n s end (with_record f m.reading (next f m.reading q.series q.end.0))) m.supply) →
+    (d : Done f m after (carry_step f m.reading q) (plan f n s end (with_record f m.reading (next f m.reading q.series q.end.0))) m.supply) →
     Went d.second (performed f (plan f n s end d.second.reading) d.second.supply) after
 rest_from f s end n m after q d = grind arith
 
-carry_ends : (f : Format) (reading : List (List ℕ)) (recovers : Recovers f reading) (s : ℕ) (q : Record) → carried f reading s ≡ Some q → Writable f reading q.series q.end.0 → (t : ℕ) → end_of f (with_record f reading (next f reading q.series q.end.0)) t ≡ end_of f reading t
+carry_ends : (f : Format) (reading : List (List ℕ)) (recovers : Recovers f reading) (s : ℕ) (q : Record) → next_carry f reading s ≡ Some q → Writable f reading q.series q.end.0 → (t : ℕ) → end_of f (with_record f reading (next f reading q.series q.end.0)) t ≡ end_of f reading t
 carry_ends f reading recovers s q e w t =
     ⊎_elim (λ same. same)
     (λ own.
@@ -187,7 +187,7 @@ module _ (f : Format) (s end start : ℕ) (series : s < 8) (some : 1 ≤ end) (u
   last_writable n m state = record { series = series; numbered = omega (arith, state.path.few); some = some; ends = upper }
 
   -- the reservation itself
-  written-leaves : (n : ℕ) (m : Meaning) (state : State n m) → carried f m.reading s ≡ None → Leaves m.reading (with_record f m.reading (next f m.reading s end))
+  written-leaves : (n : ℕ) (m : Meaning) (state : State n m) → next_carry f m.reading s ≡ None → Leaves m.reading (with_record f m.reading (next f m.reading s end))
   written-leaves n m state e =
       let w = last_writable n m state in
       let c = clear_from f m.reading s e in
@@ -203,8 +203,8 @@ module _ (f : Format) (s end start : ℕ) (series : s < 8) (some : 1 ≤ end) (u
   blank_leaves n m state after h = grind arith
 
   reserving-leaves :
-      (n : ℕ) (m after left : Meaning) (supply p : ℕ) → State n m → carried f m.reading s ≡ None → m.supply ≡ p →
-      Went m (performed f (reserving f m.reading s end ∷ []) p) after → Cut after supply left → Leaves m.reading left.reading
+      (n : ℕ) (m after left : Meaning) (supply p : ℕ) → State n m → next_carry f m.reading s ≡ None → m.supply ≡ p →
+      Went m (performed f (reservation_step f m.reading s end ∷ []) p) after → Cut after supply left → Leaves m.reading left.reading
   unfolding performed
   reserving-leaves n m after left supply zero state e is went cut =
       as_is n m left supply state (subst (λ (x : Meaning). Cut x supply left) went cut)
@@ -228,7 +228,7 @@ module _ (f : Format) (s end start : ℕ) (series : s < 8) (some : 1 ≤ end) (u
       subst (Leaves m.reading) (sym (same ∙ reads)) (written-leaves n m state e)
 
   -- a carry that is done: one fewer to come, and all ends as before
-  module _ (n : ℕ) (m m2 : Meaning) (state : State (suc n) m) (q : Record) (e : carried f m.reading s ≡ Some q) (reads : m2.reading ≡ with_record f m.reading (next f m.reading q.series q.end.0)) where
+  module _ (n : ℕ) (m m2 : Meaning) (state : State (suc n) m) (q : Record) (e : next_carry f m.reading s ≡ Some q) (reads : m2.reading ≡ with_record f m.reading (next f m.reading q.series q.end.0)) where
     cw : Writable f m.reading q.series q.end.0
     cw = path_writable f s start numbers (suc n) m.reading state.path q e
 
@@ -266,7 +266,7 @@ module _ (f : Format) (s end start : ℕ) (series : s < 8) (some : 1 ≤ end) (u
 
   -- the current fails at the flush of a carry
   carry_torn :
-      (n : ℕ) (m m1 left : Meaning) (supply : ℕ) (state : State (suc n) m) (q : Record) → carried f m.reading s ≡ Some q →
+      (n : ℕ) (m m1 left : Meaning) (supply : ℕ) (state : State (suc n) m) (q : Record) → next_carry f m.reading s ≡ Some q →
       Wrote m (gap f m.reading) (encoded f.tag (next f m.reading q.series q.end.0)) m1 → Cut m1 supply left →
       Leaves m.reading left.reading
   carry_torn n m m1 left supply state q e wrote cut =
@@ -288,11 +288,11 @@ module _ (f : Format) (s end start : ℕ) (series : s < 8) (some : 1 ≤ end) (u
       (left_unflushed f m.reading state.path.recovers q.series q.end.0 w c m m1 left supply refl state.kept wrote cut)
 
   -- no carry is to come where none is left
-  none_left : (m : Meaning) → State 0 m → (q : Record) → carried f m.reading s ≡ Some q → ⊥
+  none_left : (m : Meaning) → State 0 m → (q : Record) → next_carry f m.reading s ≡ Some q → ⊥
   none_left m state q e = path_ends f s start numbers 0 m.reading state.path q e refl
 
   leaves_by :
-      (n : ℕ) (m after left : Meaning) (supply : ℕ) (x : Option Record) → carried f m.reading s ≡ x → State n m →
+      (n : ℕ) (m after left : Meaning) (supply : ℕ) (x : Option Record) → next_carry f m.reading s ≡ x → State n m →
       Went m (performed f (plan f n s end m.reading) m.supply) after → Cut after supply left → Leaves m.reading left.reading
   leaves_by n m after left supply None e state went cut =
       reserving-leaves n m after left supply m.supply state e refl
@@ -307,15 +307,15 @@ module _ (f : Format) (s end start : ℕ) (series : s < 8) (some : 1 ≤ end) (u
       (λ h.
       let reads = h.flushed.reads ∙ h.wrote.reads in
       carry_then n m h.second state q e reads left.reading
-      (leaves_by n h.second after left supply (carried f h.second.reading s) refl
+      (leaves_by n h.second after left supply (next_carry f h.second.reading s) refl
       (carry_state n m h.second state q e reads (h.flushed.keeps ∙ sym h.flushed.reads))
       (rest_from f s end n m after q h)
       cut)))
-      (first_of_steps f m after (carrying f m.reading q) (plan f n s end (with_record f m.reading (next f m.reading q.series q.end.0))) m.supply went')
+      (first_of_steps f m after (carry_step f m.reading q) (plan f n s end (with_record f m.reading (next f m.reading q.series q.end.0))) m.supply went')
 
   -- the top record is raised by one at most with each write
   tops_by :
-      (n : ℕ) (m after : Meaning) (x : Option Record) → carried f m.reading s ≡ x → State n m →
+      (n : ℕ) (m after : Meaning) (x : Option Record) → next_carry f m.reading s ≡ x → State n m →
       Went m (performed f (plan f n s end m.reading) m.supply) after →
       Topped f after (top f m.reading + writes_in (performed f (plan f n s end m.reading) m.supply))
   tops_by n m after None e state went =
@@ -343,14 +343,14 @@ module _ (f : Format) (s end start : ℕ) (series : s < 8) (some : 1 ≤ end) (u
       ap (λ (xs : List (List ℕ)). writes_in (performed f (plan f n s end xs) d.second.supply)) reads
       ∙ ap (λ (k : ℕ). writes_in (performed f (plan f n s end new) k)) (sym p) in
       topped_up f after _ _ (omega (arith, carry_top n m d.second state q e reads))
-      (tops_by n d.second after (carried f d.second.reading s) refl
+      (tops_by n d.second after (next_carry f d.second.reading s) refl
       (carry_state n m d.second state q e reads (d.flushed.keeps ∙ sym d.flushed.reads))
       (rest_from f s end n m after q d)))
       (subst (λ (l : List Step). Went m (performed f l m.supply) after) steps went))
 
   -- with supply enough all is written and kept
   reserved_by :
-      (n : ℕ) (m after : Meaning) (x : Option Record) → carried f m.reading s ≡ x → State n m →
+      (n : ℕ) (m after : Meaning) (x : Option Record) → next_carry f m.reading s ≡ x → State n m →
       2 * length (plan f n s end m.reading) ≤ m.supply →
       Went m (performed f (plan f n s end m.reading) m.supply) after →
       DoneWell m.reading after.reading × (after.kept ≡ after.reading)
@@ -379,7 +379,7 @@ module _ (f : Format) (s end start : ℕ) (series : s < 8) (some : 1 ≤ end) (u
             }),
         kept',
       )))
-      (first_of_steps f m after (reserving f m.reading s end) [] m.supply went')
+      (first_of_steps f m after (reservation_step f m.reading s end) [] m.supply went')
   reserved_by zero m after (Some q) e state enough went = absurd (none_left m state q e)
   reserved_by (suc n) m after (Some q) e state enough went =
       let steps = plan_carries f n s end m.reading q e in
@@ -392,12 +392,12 @@ module _ (f : Format) (s end start : ℕ) (series : s < 8) (some : 1 ≤ end) (u
       let left_over : 2 * length (plan f n s end h.second.reading) ≤ h.second.supply =
       omega (arith, ap length steps, ap (λ (xs : List (List ℕ)). length (plan f n s end xs)) reads, h.wrote.spends, h.flushed.spends) in
       let d =
-      reserved_by n h.second after (carried f h.second.reading s) refl
+      reserved_by n h.second after (next_carry f h.second.reading s) refl
       (carry_state n m h.second state q e reads (h.flushed.keeps ∙ sym h.flushed.reads))
       left_over
       (rest_from f s end n m after q h) in
       (carry_done n m h.second state q e reads after.reading d.0, d.1)))
-      (first_of_steps f m after (carrying f m.reading q) (plan f n s end (with_record f m.reading (next f m.reading q.series q.end.0))) m.supply went')
+      (first_of_steps f m after (carry_step f m.reading q) (plan f n s end (with_record f m.reading (next f m.reading q.series q.end.0))) m.supply went')
 
 -- from the start
 abbrev begun : (f : Format) (s end : ℕ) (m : Meaning) (lawful : LawfulReservation f s end m) → State f s end (top f m.reading) lawful.series lawful.some lawful.ends lawful.numbers 7 m
@@ -410,14 +410,14 @@ begun f s end m lawful =
 pub cut_within : CutWithin
 cut_within f s end m after left' supply lawful went cut =
     let l =
-    leaves_by f s end (top f m.reading) lawful.series lawful.some lawful.ends lawful.numbers 7 m after left' supply (carried f m.reading s) refl
+    leaves_by f s end (top f m.reading) lawful.series lawful.some lawful.ends lawful.numbers 7 m after left' supply (next_carry f m.reading s) refl
     (begun f s end m lawful) went cut in
     record { recovers = l.recovers; ends = l.ends; tops = l.tops; most = l.most }
 
 pub reserved_whole : ReservedWhole
 reserved_whole f s end m after lawful enough went =
     let d =
-    reserved_by f s end (top f m.reading) lawful.series lawful.some lawful.ends lawful.numbers 7 m after (carried f m.reading s) refl
+    reserved_by f s end (top f m.reading) lawful.series lawful.some lawful.ends lawful.numbers 7 m after (next_carry f m.reading s) refl
     (begun f s end m lawful) enough went in (
       record { recovers = d.0.recovers; own = d.0.own; others = d.0.others; tops = d.0.tops; most = d.0.most },
       d.1,
@@ -426,7 +426,7 @@ reserved_whole f s end m after lawful enough went =
 pub tops_counted : TopsCounted
 tops_counted f s end m after lawful went =
     let t =
-    tops_by f s end (top f m.reading) lawful.series lawful.some lawful.ends lawful.numbers 7 m after (carried f m.reading s) refl
+    tops_by f s end (top f m.reading) lawful.series lawful.some lawful.ends lawful.numbers 7 m after (next_carry f m.reading s) refl
     (begun f s end m lawful) went in
     (t.now, t.cut)
 

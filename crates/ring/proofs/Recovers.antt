@@ -8,7 +8,7 @@ use Rattle.record.specs.declared.sector.Content.{Content}
 use Rattle.record.specs.declared.sector.Content.TheVariants.{Blank, Foreign, Record as Holds}
 use Rattle.record.specs.declared.sector.Format.{Format}
 use Rattle.disk.specs.Meaning.{Meaning, at, found}
-use Rattle.ring.specs.Ring.{record_in, slot, top, gap, known, known_gap, holds_live_by, holds_live, is_foreign, Native, Free, Sized, Agrees, first_of, foreign_below, scanned, recovered}
+use Rattle.ring.specs.Ring.{record_in, slot, top, gap, known, known_gap, holds_live_by, holds_live, is_foreign, Native, Free, Sized, Agrees, first_of, foreign_below, scan, recovered}
 use Rattle.ring.specs.declared.fault.RingFault.TheVariants.{LiveInGap}
 use Rattle.ring.specs.declared.known.Known.{Known}
 use Rattle.ring.specs.declared.ring.Ring.{Ring}
@@ -21,7 +21,7 @@ pub top_low : (f : Format) (reading : List (List ℕ)) → top f reading ≤ LAS
 top_low f reading =
     ⊎_elim (λ z. omega arith) (λ h. omega (arith, h.2, (placed f reading h.1.at_sector h.0 h.1.holds).last)) (top-held f reading)
 
-scan_tells : (f : Format) (reading : List (List ℕ)) (x : Option ℕ) (k : Known) → Ok k ≡ scanned f reading x → (x ≡ None) × (k ≡ known f reading)
+scan_tells : (f : Format) (reading : List (List ℕ)) (x : Option ℕ) (k : Known) → Ok k ≡ scan f reading x → (x ≡ None) × (k ≡ known f reading)
 scan_tells f reading x k e = grind arith
 
 -- none foreign below
@@ -38,9 +38,9 @@ native_below f reading (suc n) e k l =
     (λ ne. native_below f reading n t.0 k (omega arith))
     (cases_eq k n)
 
-module _ (f : Format) (reading : List (List ℕ)) (count : f.sectors ≡ length reading) (least : 10 ≤ f.sectors) (most : f.sectors ≤ 2048) (k : Known) (scan : Ok k ≡ scanned f reading (foreign_below f reading (length reading))) where
+module _ (f : Format) (reading : List (List ℕ)) (count : f.sectors ≡ length reading) (least : 10 ≤ f.sectors) (most : f.sectors ≤ 2048) (k : Known) (was : Ok k ≡ scan f reading (foreign_below f reading (length reading))) where
   told : (foreign_below f reading (length reading) ≡ None) × (k ≡ known f reading)
-  told = scan_tells f reading (foreign_below f reading (length reading)) k scan
+  told = scan_tells f reading (foreign_below f reading (length reading)) k was
 
   gap-known : known_gap (record { format = f; known = k }) ≡ gap f reading
   gap-known =

@@ -5,7 +5,7 @@ use Rattle.record.specs.declared.sector.Format.{Format}
 use Rattle.record.specs.declared.sector.Record.{Record}
 use Rattle.disk.specs.Meaning.{Meaning, Cut}
 use Rattle.ring.specs.Operations.{Went, performed, outcome, writes_in}
-use Rattle.ring.specs.Ring.{top, live, carried, with_record, carrying, reserving, plan, Sized, Free, Native, Step}
+use Rattle.ring.specs.Ring.{top, live, next_carry, with_record, carry_step, reservation_step, plan, Sized, Free, Native, Step}
 use Rattle.ring.specs.declared.fault.RingFault.{RingFault}
 use Rattle.ring.specs.declared.token.Reserved.{Reserved}
 
@@ -78,12 +78,12 @@ CutAtRest = (m left : Meaning) (supply : ℕ) → m.kept ≡ m.reading → Cut m
 -- reservation
 pub data Follows (f : Format) (s end : ℕ) : List (List ℕ) → List Step → Type 0 where
   stops :
-      {reading : List (List ℕ)} → carried f reading s ≡ None →
-      Follows f s end reading (reserving f reading s end ∷ [])
+      {reading : List (List ℕ)} → next_carry f reading s ≡ None →
+      Follows f s end reading (reservation_step f reading s end ∷ [])
   carries :
-      {reading : List (List ℕ)} {steps : List Step} (q : Record) → carried f reading s ≡ Some q →
-      Follows f s end (with_record f reading (carrying f reading q).entry) steps →
-      Follows f s end reading (carrying f reading q ∷ steps)
+      {reading : List (List ℕ)} {steps : List Step} (q : Record) → next_carry f reading s ≡ Some q →
+      Follows f s end (with_record f reading (carry_step f reading q).entry) steps →
+      Follows f s end reading (carry_step f reading q ∷ steps)
 
 -- the plan is what the rule asks for, kept or not, and has at most seven carries
 abbrev pub SevenCarries : Type 0

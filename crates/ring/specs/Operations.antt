@@ -24,14 +24,14 @@ pub data Op : Type 0 where
   settle : ℕ → Op
 
 -- what an operation does to the meaning
-abbrev pub Does : Meaning → Op → Meaning → Type 0
-Does m (put i bytes) after = Wrote m i bytes after
-Does m (settle i) after = Flushed m after
+abbrev pub Performs : Meaning → Op → Meaning → Type 0
+Performs m (put i bytes) after = Wrote m i bytes after
+Performs m (settle i) after = Flushed m after
 
 -- the meaning goes over by these operations, in their order, and by no other
 abbrev pub Went : Meaning → List Op → Meaning → Type 0
 Went m [] after = after ≡ m
-Went m (op ∷ ops) after = (between : Meaning) × Does m op between × Went between ops after
+Went m (op ∷ ops) after = (between : Meaning) × Performs m op between × Went between ops after
 
 -- by a disk's own relations
 module _ {D : Type 0} (moves : Moves D) where

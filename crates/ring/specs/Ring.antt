@@ -67,8 +67,8 @@ unfoldable pub live : Format → List (List ℕ) → ℕ → Live
 live f reading s = live_below f reading s (length reading)
 
 -- what is known once a record is written that is newer than all others
-abbrev pub noted : Known → Record → Known
-noted k r = record { top = r.sequence; lives = slice_set k.lives r.series (live_of r) }
+abbrev pub note : Known → Record → Known
+note k r = record { top = r.sequence; lives = slice_set k.lives r.series (live_of r) }
 
 -- the sector that the next record goes to
 abbrev pub gap : Format → List (List ℕ) → ℕ
@@ -79,8 +79,8 @@ abbrev pub beyond : Format → List (List ℕ) → ℕ
 beyond f reading = (top f reading + 2) % length reading
 
 -- the sector that a number names, of so many; the first where there is none
-abbrev pub named : ℕ → ℕ → ℕ
-named number sectors = if sectors == 0 then 0 else number % sectors
+abbrev pub sector_of : ℕ → ℕ → ℕ
+sector_of number sectors = if sectors == 0 then 0 else number % sectors
 
 -- a record is live when its number is that of its series' live record
 abbrev pub is_live : Format → List (List ℕ) → Record → Bool
@@ -105,8 +105,8 @@ to_carry f reading s (Some r) =
     if not (r.series == s) && is_live f reading r then Some r else None
 
 -- the record after the gap that has to be carried before series s reserves
-abbrev pub carried : Format → List (List ℕ) → ℕ → Option Record
-carried f reading s = to_carry f reading s (slot f reading (beyond f reading))
+abbrev pub next_carry : Format → List (List ℕ) → ℕ → Option Record
+next_carry f reading s = to_carry f reading s (slot f reading (beyond f reading))
 
 -- the next record
 abbrev pub next : Format → List (List ℕ) → ℕ → ℕ → Record
@@ -124,27 +124,27 @@ pub record Step : Type 0 where
   pub entry : Record
 
 -- the write of the reservation itself
-abbrev pub reserving : Format → List (List ℕ) → ℕ → ℕ → Step
-reserving f reading s end =
+abbrev pub reservation_step : Format → List (List ℕ) → ℕ → ℕ → Step
+reservation_step f reading s end =
     record { work = Reservation s; sector = gap f reading; entry = next f reading s end }
 
 -- the write of a carry: the record once more, with the next number and its own end
-abbrev pub carrying : Format → List (List ℕ) → Record → Step
-carrying f reading r =
+abbrev pub carry_step : Format → List (List ℕ) → Record → Step
+carry_step f reading r =
     record { work = Carry r.series; sector = gap f reading; entry = next f reading r.series r.end.0 }
 
 -- a carry and what follows it, or the reservation
 abbrev pub first_then :
     Format → List (List ℕ) → ℕ → ℕ → (Record → List Step) → Option Record → List Step
-first_then f reading s end rest None = reserving f reading s end ∷ []
+first_then f reading s end rest None = reservation_step f reading s end ∷ []
 first_then f reading s end rest (Some r) =
-    carrying f reading r ∷ rest (carrying f reading r).entry
+    carry_step f reading r ∷ rest (carry_step f reading r).entry
 
 -- the writes of a reservation with at most n carries, in their order
 unfoldable pub plan : Format → ℕ → ℕ → ℕ → List (List ℕ) → List Step
-plan f zero s end reading = reserving f reading s end ∷ []
+plan f zero s end reading = reservation_step f reading s end ∷ []
 plan f (suc n) s end reading =
-    first_then f reading s end (λ r. plan f n s end (with_record f reading r)) (carried f reading s)
+    first_then f reading s end (λ r. plan f n s end (with_record f reading r)) (next_carry f reading s)
 
 -- what there is to know of the sectors
 abbrev pub known : Format → List (List ℕ) → Known
@@ -152,8 +152,8 @@ known f reading =
     record { top = record { 0 = top f reading }; lives = map (live f reading) (range_with_len 0 8) }
 
 -- what is known once one record more is met
-abbrev pub met : Known → Record → Known
-met k r =
+abbrev pub meet : Known → Record → Known
+meet k r =
     record {
       top = record { 0 = max k.top.0 r.sequence.0 };
       lives = slice_set k.lives r.series (newer (slice_index_or k.lives r.series none) (live_of r));
@@ -209,7 +209,7 @@ pub record Agrees (r : Ring) (m : Meaning) : Type 0 where
 
 -- the gap as the ring knows it
 abbrev pub known_gap : Ring → ℕ
-known_gap r = named (min (r.known.top.0 + 1) (2 ^ 64 - 1)) r.format.sectors
+known_gap r = sector_of (min (r.known.top.0 + 1) (2 ^ 64 - 1)) r.format.sectors
 
 -- the next record as the ring knows it
 abbrev pub next_of : Ring → ℕ → Rank → Record
@@ -217,7 +217,7 @@ next_of r s end = next_known r.known s end
 
 -- the ring once a record is written that is newer than all others
 abbrev pub with_noted : Ring → Record → Ring
-with_noted r entry = record { format = r.format; known = noted r.known entry }
+with_noted r entry = record { format = r.format; known = note r.known entry }
 
 -- the first of two, if there is one
 abbrev pub first_of : {A : Type 0} → Option A → Option A → Option A
@@ -237,14 +237,14 @@ holds_live f reading None = false
 holds_live f reading (Some r) = is_live f reading r
 
 -- what a pass over all sectors tells: the lowest foreign one, or what there is to know
-abbrev pub scanned : Format → List (List ℕ) → Option ℕ → Result Known RingFault
-scanned f reading (Some sector) = Err (Foreign' sector)
-scanned f reading None = Ok (known f reading)
+abbrev pub scan : Format → List (List ℕ) → Option ℕ → Result Known RingFault
+scan f reading (Some sector) = Err (Foreign' sector)
+scan f reading None = Ok (known f reading)
 
 -- a ring that is known, unless its gap holds a live record
-abbrev pub settled : Format → List (List ℕ) → Result Known RingFault → Result Ring RingFault
-settled f reading (Err fault) = Err fault
-settled f reading (Ok k) =
+abbrev pub ring_of_scan : Format → List (List ℕ) → Result Known RingFault → Result Ring RingFault
+ring_of_scan f reading (Err fault) = Err fault
+ring_of_scan f reading (Ok k) =
     if holds_live f reading (slot f reading (gap f reading))
     then Err (LiveInGap (gap f reading))
     else Ok (record { format = f; known = k })
@@ -253,5 +253,5 @@ settled f reading (Ok k) =
 abbrev pub recovered : Format → List (List ℕ) → Result Ring RingFault
 recovered f reading =
     if nat_le LEAST_SECTORS f.sectors && nat_le f.sectors MOST_SECTORS
-    then settled f reading (scanned f reading (foreign_below f reading (length reading)))
+    then ring_of_scan f reading (scan f reading (foreign_below f reading (length reading)))
     else Err (Size f.sectors)

@@ -6,7 +6,7 @@ use Rattle.record.specs.declared.sector.Format.{Format}
 use Rattle.disk.specs.Meaning.{Meaning}
 use Rattle.disk.specs.Moves.{Moves}
 use Rattle.ring.specs.Operations.{Went, performed, tried, outcome, Writes, Chain}
-use Rattle.ring.specs.Ring.{top, live, carried, plan, reserving, known_gap, Agrees, Step}
+use Rattle.ring.specs.Ring.{top, live, next_carry, plan, reservation_step, known_gap, Agrees, Step}
 use Rattle.ring.specs.declared.fault.RingFault.{RingFault}
 use Rattle.ring.specs.declared.fault.RingFault.TheVariants.{Series, End, Exhausted}
 use Rattle.ring.specs.declared.ring.Ring.{Ring}
@@ -26,15 +26,15 @@ module _ (f : Format) (s : ℕ) (whole : Meaning) where
         Went whole (performed f (plan f 7 s end whole.reading) whole.supply) after
 
   -- a search at its end: nothing is to be carried, and the reservation itself is left
-  pub record Cleared (r : Ring) (m : Meaning) : Type 0 where
+  pub record ClearedWay (r : Ring) (m : Meaning) : Type 0 where
     pub agrees : Agrees r m
     pub format : r.format ≡ f
     pub near : top f m.reading ≤ top f whole.reading + 7
-    pub clear : carried f m.reading s ≡ None
-    pub rest : Continues m (λ end. reserving f m.reading s end ∷ [])
+    pub clear : next_carry f m.reading s ≡ None
+    pub rest : Continues m (λ end. reservation_step f m.reading s end ∷ [])
 
   -- a search that darkness stopped
-  pub record Stopped (fault : RingFault) (r : Ring) (m : Meaning) : Type 0 where
+  pub record StoppedSearch (fault : RingFault) (r : Ring) (m : Meaning) : Type 0 where
     pub agrees : Agrees r m
     pub format : r.format ≡ f
     pub answers :
@@ -86,7 +86,7 @@ module _ (f : Format) (s : ℕ) (end : Rank) (whole : Meaning) where
   pub record Begun (w : Written) (r : Ring) (m : Meaning) : Type 0 where
     pub ring : Ring
     pub meaning : Meaning
-    pub cleared : Cleared f s whole ring meaning
+    pub cleared : ClearedWay f s whole ring meaning
     pub writes : Writes ring meaning s end r m
     pub token : w ≡ written f whole.reading s end (known_gap ring)
 
@@ -100,9 +100,9 @@ refusal f top s end =
     else Some (End end)
 
 -- what is asked for, unless it is refused
-abbrev pub admitted : {A : Type 0} → A → Option RingFault → Result A RingFault
-admitted asked None = Ok asked
-admitted asked (Some fault) = Err fault
+abbrev pub admit : {A : Type 0} → A → Option RingFault → Result A RingFault
+admit asked None = Ok asked
+admit asked (Some fault) = Err fault
 
 -- a reservation that nothing refuses, on a ring that agrees with its disk
 pub record MayReserve (r : Ring) (m : Meaning) (s : ℕ) (end : Rank) : Type 0 where

@@ -10,9 +10,9 @@ use Rattle.ring.specs.declared.token.Unconfirmed.{Unconfirmed}
 use Rattle.ring.specs.declared.token.Written.{Written}
 
 -- it is confirmed, or comes back with the fault
-abbrev pub confirmed : Written → Result (Unit {0}) DiskFault → Result Reserved Unconfirmed
-confirmed w (Ok done) = Ok (record { series = w.claim.series; start = w.start; end = w.claim.end })
-confirmed w (Err fault) = Err (record { written = w; fault = fault })
+abbrev pub confirm : Written → Result (Unit {0}) DiskFault → Result Reserved Unconfirmed
+confirm w (Ok done) = Ok (record { series = w.claim.series; start = w.start; end = w.claim.end })
+confirm w (Err fault) = Err (record { written = w; fault = fault })
 
 -- a block that gives no rank
 abbrev pub empty_block : Rank → Block
@@ -55,23 +55,23 @@ rank_of least b =
     else None
 
 -- what is drawn of a series
-abbrev pub drawn_as : ℕ → Option Rank → Option Drawn
-drawn_as s None = None
-drawn_as s (Some rank) = Some (record { series = s; rank = rank })
+abbrev pub drawn_rank : ℕ → Option Rank → Option Drawn
+drawn_rank s None = None
+drawn_rank s (Some rank) = Some (record { series = s; rank = rank })
 
 abbrev pub drawn : ℕ → Rank → Blocks → Option Drawn
-drawn s least blocks = drawn_as s (rank_of least (block_in blocks s))
+drawn s least blocks = drawn_rank s (rank_of least (block_in blocks s))
 
 -- a block that gave a rank, if it gave one: it goes on above that
-abbrev pub gone_on : Option Rank → Block → Block
-gone_on None b = b
-gone_on (Some rank) b = record { next = record { 0 = rank.0 + 1 }; end = b.end }
+abbrev pub after_rank : Option Rank → Block → Block
+after_rank None b = b
+after_rank (Some rank) b = record { next = record { 0 = rank.0 + 1 }; end = b.end }
 
 -- the blocks after a draw
 abbrev pub left_by : Option Drawn → Blocks → Blocks
 left_by None blocks = blocks
 left_by (Some d) blocks =
-    with_block blocks d.series (gone_on (Some d.rank) (block_in blocks d.series))
+    with_block blocks d.series (after_rank (Some d.rank) (block_in blocks d.series))
 
 -- a rank that may still come out of the block of a series
 abbrev pub Holds : Blocks → ℕ → ℕ → Type 0

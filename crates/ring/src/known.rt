@@ -1,6 +1,6 @@
 // What the ring knows of its sectors.
 ghost use Rattle.std.specs.Prelude.{◌≡◌, length, slice_set};
-ghost use Rattle.ring.specs.Ring.{newer, live_of, met, noted, next_known, carry_of, live_among, is_live_by, holds_live_by, known_end};
+ghost use Rattle.ring.specs.Ring.{newer, live_of, meet, note, next_known, carry_of, live_among, is_live_by, holds_live_by, known_end};
 
 use record::{Content, Rank, Record, Sequence};
 
@@ -104,7 +104,7 @@ impl Known {
 
     // What is known once one record more is met.
     pub(crate) fn meet(self, entry: Record) -> Known
-        ensures { result ≡ met self entry }
+        ensures { result ≡ meet self entry }
     {
         let live = newest(self.live(entry.series), Live::from(entry));
         Known {
@@ -115,7 +115,7 @@ impl Known {
 
     // What is known once a record is written that is newer than all others.
     pub(crate) fn note(self, entry: Record) -> Known
-        ensures { result ≡ noted self entry }
+        ensures { result ≡ note self entry }
     {
         Known {
             top: entry.sequence,

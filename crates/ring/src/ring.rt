@@ -6,11 +6,11 @@ ghost use Rattle.ring.specs.Faults.{with_work};
 ghost use Rattle.disk.specs.Meaning.{Meaning, at, count, answer_of};
 ghost use Rattle.disk.specs.declared.fault.Operation.TheVariants.{Write};
 ghost use Rattle.ring.specs.Operations.{Writes, Carries, Denied, Chain, write_and_flush};
-ghost use Rattle.ring.specs.Runs.{looked, known_carrying, Appends, RunsUnlessRefused, RunsShort, RunsClear, RunsStopped, RunsWritten};
-ghost use Rattle.ring.specs.Search.{GoesOn, Tried, MaySearch, Cleared, Stopped, MayReserve, Begun, Ended, refusal, admitted};
+ghost use Rattle.ring.specs.Runs.{look, known_carry, Appends, RunsUnlessRefused, RunsShort, RunsClear, RunsStopped, RunsWritten};
+ghost use Rattle.ring.specs.Search.{GoesOn, Tried, MaySearch, ClearedWay, StoppedSearch, MayReserve, Begun, Ended, refusal, admit};
 ghost use Rattle.ring.specs.declared.fault.Work.TheVariants.{Carry};
 ghost use Rattle.record.specs.Sector.{content, encoded};
-ghost use Rattle.ring.specs.Ring.{named, known_gap, next_of, reserving, beyond, top, scanned, foreign_below, recovered, known_end, known_ends, Agrees};
+ghost use Rattle.ring.specs.Ring.{sector_of, known_gap, next_of, reservation_step, beyond, top, scan, foreign_below, recovered, known_end, known_ends, Agrees};
 
 use crate::fault::{Interrupted, RingFault, Work, during};
 use crate::known::{Claim, Known};
@@ -27,7 +27,7 @@ pub struct Ring {
 
 // The sector that a sequence number names; the first where there is no sector.
 fn sector_of(number: u64, sectors: usize) -> usize
-    ensures { result ≡ named number sectors }
+    ensures { result ≡ sector_of number sectors }
 {
     number.checked_rem(sectors as u64).unwrap_or(0) as usize
 }
@@ -36,7 +36,7 @@ fn sector_of(number: u64, sectors: usize) -> usize
 fn scan<D: Disk>(disk: &D, format: Format) -> Result<Known, RingFault>
     requires { format.sectors ≡ count (D.meaning disk.now) }
     ensures { let m = D.meaning disk.now in
-        result ≡ scanned format m.reading (foreign_below format m.reading (count m)) }
+        result ≡ scan format m.reading (foreign_below format m.reading (count m)) }
 {
     let mut known = Known::NOTHING;
     for sector in 0..format.sectors {
@@ -115,7 +115,7 @@ impl Ring {
 
     // What the sector after the gap holds.
     pub(crate) fn look<D: Disk>(&self, disk: &D) -> Result<Content, DiskFault>
-        ensures looks { result ≡ looked self.now (D.meaning disk.now).reading }
+        ensures looks { result ≡ look self.now (D.meaning disk.now).reading }
         ensures agrees { let f = self.now.format in
             let m = D.meaning disk.now in
             let i = beyond f m.reading in
@@ -172,7 +172,7 @@ impl Ring {
             let bytes = encoded self.old.format.tag (next_of self.old entry.series entry.end) in
             let answer = answer_of Write (D.meaning disk.old) gap in
             Chain D.moves disk.old (write_and_flush gap bytes answer) disk.new }
-        ensures appends { let step = known_carrying self.old entry in
+        ensures appends { let step = known_carry self.old entry in
             MatchResult result
             (λ _. Appends D.moves D.meaning self.old disk.old step (Ok tt) self.new disk.new)
             (λ x. Appends D.moves D.meaning self.old disk.old step (Err x.fault) self.new disk.new) }
@@ -192,11 +192,11 @@ impl Ring {
             let m = D.meaning disk.old in
             let after = D.meaning disk.new in
             MaySearch self.old m series → MatchResult result
-            (λ _. Cleared f series m self.new after)
-            (λ x. Stopped f series m x self.new after) }
+            (λ _. ClearedWay f series m self.new after)
+            (λ x. StoppedSearch f series m x self.new after) }
         ensures moves { let f = self.old.format in
             let reading = (D.meaning disk.new).reading in
-            let rest = λ (end : ℕ). reserving f reading series end ∷ [] in
+            let rest = λ (end : ℕ). reservation_step f reading series end ∷ [] in
             MaySearch self.old (D.meaning disk.old) series → MatchResult result
             (λ _. GoesOn D.moves D.meaning f series disk.old rest disk.new)
             (λ _. (end : ℕ) → Tried D.moves D.meaning f series disk.old end disk.new) }
@@ -246,7 +246,7 @@ impl Ring {
     // What a reservation claims, if it may be made at all.
     fn admit(&self, series: u8, end: Rank) -> Result<Claim, RingFault>
         ensures { let claim : Claim = record { series = series; end = end } in
-            result ≡ admitted claim (refusal self.now.format self.now.known.top.0 series end) }
+            result ≡ admit claim (refusal self.now.format self.now.known.top.0 series end) }
     {
         if end.0 == 0 || end.0 - 1 > self.format.top.0 {
             return Err(RingFault::End(end));

@@ -3,7 +3,7 @@ ghost use Rattle.std.specs.Prelude.{◌≡◌, ℕ, ◌<◌, ◌⊎◌, MatchRes
 ghost use Rattle.disk.specs.Meaning.{answer_of, Flushed};
 ghost use Rattle.disk.specs.declared.fault.Operation.TheVariants.{Flush};
 ghost use Rattle.ring.specs.Ring.{known_ends};
-ghost use Rattle.ring.specs.Token.{confirmed, empty_block, empty_blocks, block_in, extended, filled, rank_of, drawn, gone_on, left_by, Holds, Covers};
+ghost use Rattle.ring.specs.Token.{confirm, empty_block, empty_blocks, block_in, extended, filled, rank_of, drawn, after_rank, left_by, Holds, Covers};
 ghost use Rattle.ring.specs.declared.fault.Work.TheVariants.{Reservation};
 
 use crate::fault::{Interrupted, Work};
@@ -68,7 +68,7 @@ impl Written {
     // Flushes the reservation. Where the disk denies that, the reservation comes back, to be given up.
     pub(crate) fn confirm<D: Disk>(self, disk: &mut D) -> Result<Reserved, Unconfirmed>
         ensures answer { let m = D.meaning disk.old in
-            result ≡ confirmed self (answer_of Flush m self.sector) }
+            result ≡ confirm self (answer_of Flush m self.sector) }
         ensures effect { let m = D.meaning disk.old in
             let after = D.meaning disk.new in
             MatchResult result (λ _. Flushed m after) (λ _. after ≡ m) }
@@ -142,7 +142,7 @@ impl Block {
     // Gives the next rank, but none below a least one; none at or above the end.
     fn draw(&mut self, least: Rank) -> Option<Rank>
         ensures drawn { result ≡ rank_of least self.old }
-        ensures rest { self.new ≡ gone_on result self.old }
+        ensures rest { self.new ≡ after_rank result self.old }
     {
         let end = self.end.0;
         let rank = self.next.max(least);
