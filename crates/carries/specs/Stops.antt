@@ -5,7 +5,7 @@ use Rattle.disk.specs.Meaning.{Meaning, Cut, count}
 use Rattle.disk.specs.Moves.{Moves}
 use Rattle.ring.specs.Left.{Left}
 use Rattle.ring.specs.Operations.{Went, performed, outcome}
-use Rattle.ring.specs.Ring.{plan, recovered}
+use Rattle.ring.specs.Ring.{plan, recover}
 use Rattle.ring.specs.Search.{reservation}
 use Rattle.ring.specs.declared.fault.RingFault.{RingFault}
 use Rattle.ring.specs.declared.known.Claim.{Claim}
@@ -59,7 +59,7 @@ pub record Stops (cuts : ℕ → ℕ → Meaning → Meaning → Type 0) (start 
   pub goes : Went woken (performed (format start) (plan (format start) 7 7 3 start.reading) supply) after
   pub ends : Cut after 1000 end
   pub last : cuts tear 1000 after end
-  pub finds : found ≡ recovered (format start) end.reading
+  pub finds : found ≡ recover (format start) end.reading
   pub leaves : Left (format start) 7 3 start.reading end.reading
 
 -- a disk was filled, and then stopped

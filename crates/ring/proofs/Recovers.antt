@@ -8,7 +8,7 @@ use Rattle.record.specs.declared.sector.Content.{Content}
 use Rattle.record.specs.declared.sector.Content.TheVariants.{Blank, Foreign, Record as Holds}
 use Rattle.record.specs.declared.sector.Format.{Format}
 use Rattle.disk.specs.Meaning.{Meaning, at, found}
-use Rattle.ring.specs.Ring.{record_in, slot, top, gap, known, known_gap, holds_live_by, holds_live, is_foreign, Native, Free, Sized, Agrees, first_of, foreign_below, scan, recovered}
+use Rattle.ring.specs.Ring.{record_in, slot, top, gap, known, known_gap, holds_live_by, holds_live, is_foreign, Native, Free, Sized, Agrees, first_of, foreign_below, scan, recover}
 use Rattle.ring.specs.declared.fault.RingFault.TheVariants.{LiveInGap}
 use Rattle.ring.specs.declared.known.Known.{Known}
 use Rattle.ring.specs.declared.ring.Ring.{Ring}
@@ -77,12 +77,12 @@ module _ (f : Format) (reading : List (List ℕ)) (count : f.sectors ≡ length 
     in_range : (leb 10 f.sectors && leb f.sectors 2048) ≡ true
     in_range = rw (le-leb 10 f.sectors least, le-leb f.sectors 2048 most) refl
 
-    pub recover_live : holds_live_by k c ≡ true → Err (LiveInGap g) ≡ recovered f reading
+    pub recover_live : holds_live_by k c ≡ true → Err (LiveInGap g) ≡ recover f reading
     recover_live h =
         let holds : holds_live f reading (slot f reading (gap f reading)) ≡ true = sym tells ∙ h in
         rw (in_range, told.0, holds) (ap (λ (i : ℕ). Err (LiveInGap i)) same_gap)
 
-    pub recover_well : holds_live_by k c ≡ false → Ok (record { format = f; known = k }) ≡ recovered f reading
+    pub recover_well : holds_live_by k c ≡ false → Ok (record { format = f; known = k }) ≡ recover f reading
     recover_well h =
         let holds : holds_live f reading (slot f reading (gap f reading)) ≡ false = sym tells ∙ h in
         rw (in_range, told.0, holds) (ap (λ (x : Known). Ok (record_ring x)) told.1)

@@ -250,8 +250,8 @@ ring_of_scan f reading (Ok k) =
     else Ok (record { format = f; known = k })
 
 -- what recovery answers
-abbrev pub recovered : Format → List (List ℕ) → Result Ring RingFault
-recovered f reading =
+abbrev pub recover : Format → List (List ℕ) → Result Ring RingFault
+recover f reading =
     if nat_le LEAST_SECTORS f.sectors && nat_le f.sectors MOST_SECTORS
     then ring_of_scan f reading (scan f reading (foreign_below f reading (length reading)))
     else Err (Size f.sectors)

@@ -36,16 +36,16 @@ block_ends blocks = map (λ (block : Block). block.end) blocks.0
 
 -- a block with the ranks from a start up to an end: it goes on where it ends at the start, and begins there otherwise, but
 -- never below its next rank
-abbrev pub extended : Rank → Rank → Block → Block
-extended start end b =
+abbrev pub extend : Rank → Rank → Block → Block
+extend start end b =
     record {
       next = if b.end.0 == start.0 then b.next else record { 0 = max b.next.0 start.0 };
       end = end;
     }
 
 -- the blocks with the ranks of a reservation, which its own series takes over
-abbrev pub filled : Reserved → Blocks → Blocks
-filled r blocks = with_block blocks r.series (extended r.start r.end (block_in blocks r.series))
+abbrev pub fill : Reserved → Blocks → Blocks
+fill r blocks = with_block blocks r.series (extend r.start r.end (block_in blocks r.series))
 
 -- the rank that a block gives: the next one, but none below a least one, if that is below its end
 abbrev pub rank_of : Rank → Block → Option Rank
@@ -59,8 +59,8 @@ abbrev pub drawn_rank : ℕ → Option Rank → Option Drawn
 drawn_rank s None = None
 drawn_rank s (Some rank) = Some (record { series = s; rank = rank })
 
-abbrev pub drawn : ℕ → Rank → Blocks → Option Drawn
-drawn s least blocks = drawn_rank s (rank_of least (block_in blocks s))
+abbrev pub draw : ℕ → Rank → Blocks → Option Drawn
+draw s least blocks = drawn_rank s (rank_of least (block_in blocks s))
 
 -- a block that gave a rank, if it gave one: it goes on above that
 abbrev pub after_rank : Option Rank → Block → Block
@@ -68,9 +68,9 @@ after_rank None b = b
 after_rank (Some rank) b = record { next = record { 0 = rank.0 + 1 }; end = b.end }
 
 -- the blocks after a draw
-abbrev pub left_by : Option Drawn → Blocks → Blocks
-left_by None blocks = blocks
-left_by (Some d) blocks =
+abbrev pub after_draw : Option Drawn → Blocks → Blocks
+after_draw None blocks = blocks
+after_draw (Some d) blocks =
     with_block blocks d.series (after_rank (Some d.rank) (block_in blocks d.series))
 
 -- a rank that may still come out of the block of a series

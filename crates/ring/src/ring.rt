@@ -10,7 +10,7 @@ ghost use Rattle.ring.specs.Runs.{look, known_carry, Appends, RunsUnlessRefused,
 ghost use Rattle.ring.specs.Search.{GoesOn, Tried, MaySearch, ClearedWay, StoppedSearch, MayReserve, Begun, Ended, refusal, admit};
 ghost use Rattle.ring.specs.declared.fault.Work.TheVariants.{Carry};
 ghost use Rattle.record.specs.Sector.{content, encoded};
-ghost use Rattle.ring.specs.Ring.{sector_of, known_gap, next_of, reservation_step, beyond, top, scan, foreign_below, recovered, known_end, known_ends, Agrees};
+ghost use Rattle.ring.specs.Ring.{sector_of, known_gap, next_of, reservation_step, beyond, top, scan, foreign_below, recover, known_end, known_ends, Agrees};
 
 use crate::fault::{Interrupted, RingFault, Work, during};
 use crate::known::{Claim, Known};
@@ -63,7 +63,7 @@ impl Ring {
     pub fn recover<D: Disk>(disk: &D, tag: u8, top: Rank) -> Result<Ring, RingFault>
         ensures answer { let m = D.meaning disk.now in
             let format : Format = record { tag = tag; top = top; sectors = count m } in
-            result ≡ recovered format m.reading }
+            result ≡ recover format m.reading }
         ensures agrees { top.0 < 2 ^ 53 → IfOk result (λ ring. Agrees ring (D.meaning disk.now)) }
     {
         let sectors = disk.sectors();

@@ -3,7 +3,7 @@ ghost use Rattle.std.specs.Prelude.{◌≡◌, ℕ, ◌<◌, ◌⊎◌, MatchRes
 ghost use Rattle.disk.specs.Meaning.{answer_of, Flushed};
 ghost use Rattle.disk.specs.declared.fault.Operation.TheVariants.{Flush};
 ghost use Rattle.ring.specs.Ring.{known_ends};
-ghost use Rattle.ring.specs.Token.{confirm, empty_block, empty_blocks, block_in, extended, filled, rank_of, drawn, after_rank, left_by, Holds, Covers};
+ghost use Rattle.ring.specs.Token.{confirm, empty_block, empty_blocks, block_in, extend, fill, rank_of, draw, after_rank, after_draw, Holds, Covers};
 ghost use Rattle.ring.specs.declared.fault.Work.TheVariants.{Reservation};
 
 use crate::fault::{Interrupted, Work};
@@ -131,7 +131,7 @@ impl Block {
 
     // Takes over the ranks from a start up to an end: it goes on where it ends at the start, and begins there otherwise.
     fn extend(&mut self, start: Rank, end: Rank)
-        ensures { self.new ≡ extended start end self.old }
+        ensures { self.new ≡ extend start end self.old }
     {
         if self.end != start {
             self.next = self.next.max(start);
@@ -184,7 +184,7 @@ impl Blocks {
 
     // Takes over the ranks that were reserved, into the block of their series.
     pub fn fill(&mut self, reserved: Reserved)
-        ensures filled { self.new ≡ filled reserved self.old }
+        ensures filled { self.new ≡ fill reserved self.old }
         ensures only { (s rank : ℕ) → Holds self.new s rank →
             Holds self.old s rank ⊎ Covers reserved s rank }
     {
@@ -196,8 +196,8 @@ impl Blocks {
 
     // Draws the next rank of a series, but none below a least one; none at or above the end, and none of a series above 7.
     pub fn draw(&mut self, series: u8, least: Rank) -> Option<Drawn>
-        ensures drawn { result ≡ drawn series least self.old }
-        ensures rest { self.new ≡ left_by result self.old }
+        ensures drawn { result ≡ draw series least self.old }
+        ensures rest { self.new ≡ after_draw result self.old }
         ensures held { IfSome result (λ d. Holds self.old d.series d.rank.0) }
         ensures once { IfSome result (λ d.
             (rank : ℕ) → Holds self.new d.series rank → d.rank.0 < rank) }

@@ -3,7 +3,7 @@ ghost use Rattle.std.specs.Prelude.{◌≡◌, [], nat_lt, cond, IfOk};
 ghost use Rattle.ring.specs.Operations.{Chain};
 ghost use Rattle.ring.specs.Ring.{Agrees};
 ghost use Rattle.ring.specs.Search.{refusal};
-ghost use Rattle.ring.specs.Token.{block_in, drawn, left_by};
+ghost use Rattle.ring.specs.Token.{block_in, draw, after_draw};
 ghost use Rattle.server.specs.Rules.{awake, with_blocks, is_fatal, tries_for, Ready, Took};
 
 use disk::Disk;
@@ -37,8 +37,8 @@ impl Up {
 
     // Draws a rank of a series, none below a least one.
     pub(crate) fn draw(&mut self, series: u8, least: Rank) -> Option<Drawn>
-        ensures drawn { result ≡ drawn series least self.old.blocks }
-        ensures rest { self.new ≡ with_blocks self.old (left_by result self.old.blocks) }
+        ensures drawn { result ≡ draw series least self.old.blocks }
+        ensures rest { self.new ≡ with_blocks self.old (after_draw result self.old.blocks) }
     {
         self.blocks.draw(series, least)
     }

@@ -1,7 +1,7 @@
 -- The gap is looked at last.
 use Rattle.std.proofs.Common.{ℕ, sym, refl, ap, ◌∙◌, arith}
 use Rattle.std.proofs.lemmas.Map.Keys.{le_from_is_le}
-use Rattle.ring.specs.Ring.{recovered}
+use Rattle.ring.specs.Ring.{recover}
 use Rattle.ring.proofs.Recovers.{recover_live, recover_well, recover_agrees}
 use Rattle.ring.proofs.ring.Ring.recover.Goals as goal
 
