@@ -4,7 +4,7 @@ use Rattle.std.specs.List.{range_with_len}
 use Rattle.record.specs.Sector.{content, encoded}
 use Rattle.record.specs.declared.numbers.Rank.{Rank}
 use Rattle.record.specs.declared.sector.Content.{Content}
-use Rattle.record.specs.declared.sector.Content.TheVariants.{Blank, Foreign, Record as Holds}
+use Rattle.record.specs.declared.sector.Content.TheVariants.{Foreign, Record as Holds}
 use Rattle.record.specs.declared.sector.Format.{Format}
 use Rattle.record.specs.declared.sector.Record.{Record}
 use Rattle.disk.specs.Meaning.{Meaning, at}
