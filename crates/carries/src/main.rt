@@ -1,5 +1,5 @@
-// A ring that closes, and its carries: seven live records are in the way of one reservation, and the current fails at each
-// of its sixteen writes and flushes in turn.
+// A ring that closes, and its carries: seven live records are in the way of one reservation, and the current fails at
+// each of its sixteen writes and flushes in turn.
 #![tactic(auto)]
 
 ghost use Rattle.std.specs.Prelude.{◌≡◌, Some, IfOk, IsOkAnd, flat_map};
@@ -100,7 +100,9 @@ impl fmt::Display for Recovered {
 
 // The nine reservations that fill the ring: one of each series, and a second one of series 7.
 fn fill<D: Disk>(disk: &mut D, ring: &mut Ring) -> Result<(), RingFault>
-    ensures { Agrees ring.old (D.meaning disk.old) → IfOk result (λ _. Filled ring.old.format (D.meaning disk.old) 9 (D.meaning disk.new)) }
+    ensures { let m = D.meaning disk.old in
+        Agrees ring.old m →
+        IfOk result (λ _. Filled ring.old.format m 9 (D.meaning disk.new)) }
 {
     let mut blocks = ring.blocks();
     for series in 0..8u8 {
@@ -126,7 +128,10 @@ fn told(answer: Result<Reserved, RingFault>, mut blocks: Blocks) -> Answer
 
 // The current fails and comes back with so much supply; then the reservation with seven carries, a cut, and recovery.
 fn stop<D: Disk>(disk: &mut D, supply: u64, tear: u64) -> Result<(Answer, Recovered), RingFault>
-    ensures { LawfulReservation (format (D.meaning disk.old)) 7 3 (D.meaning disk.old) → IsOkAnd result (λ told. Stops (CutBy D.moves D.meaning) (D.meaning disk.old) supply tear told.0.0 told.1.0 (D.meaning disk.new)) }
+    ensures { let m = D.meaning disk.old in
+        let cuts = CutBy D.moves D.meaning in
+        LawfulReservation (format m) 7 3 m → IsOkAnd result (λ told.
+        Stops cuts m supply tear told.0.0 told.1.0 (D.meaning disk.new)) }
 {
     disk.cut(0, supply);
     let mut ring = Ring::recover(disk, TAG, TOP)?;
@@ -143,7 +148,10 @@ fn fill_and_stop<D: Disk>(
     supply: u64,
     tear: u64,
 ) -> Result<(Answer, Recovered), RingFault>
-    ensures { WithoutRecords (D.meaning disk.old) → IfOk result (λ told. FilledAndStopped (CutBy D.moves D.meaning) (D.meaning disk.old) supply tear told.0.0 told.1.0 (D.meaning disk.new)) }
+    ensures { let m = D.meaning disk.old in
+        let cuts = CutBy D.moves D.meaning in
+        WithoutRecords m → IfOk result (λ told.
+        FilledAndStopped cuts m supply tear told.0.0 told.1.0 (D.meaning disk.new)) }
 {
     let mut ring = Ring::recover(disk, TAG, TOP)?;
     fill(disk, &mut ring)?;

@@ -27,8 +27,8 @@ abbrev pub series_of : Work → ℕ
 series_of (Carry series) = series
 series_of (Reservation series) = series
 
--- what each denial tells: of a size, a foreign sector, a live record in the gap, a series, an end, numbers that run short,
--- a read, and a write or a flush with the work that it stopped
+-- what each denial tells: of a size, a foreign sector, a live record in the gap, a series, an end, numbers that run
+-- short, a read, and a write or a flush with the work that it stopped
 abbrev pub particulars : RingFault → Particulars
 particulars (Size count) = numbered 3
 particulars (Foreign sector) = record (numbered 5) { sector = Some sector }

@@ -72,7 +72,9 @@ ReservedWhole =
 
 -- a cut of sectors that are all kept changes none
 abbrev pub CutAtRest : Type 0
-CutAtRest = (m left : Meaning) (supply : ℕ) → m.kept ≡ m.reading → Cut m supply left → left.reading ≡ m.reading
+CutAtRest =
+    (m left : Meaning) (supply : ℕ) → m.kept ≡ m.reading → Cut m supply left →
+    left.reading ≡ m.reading
 
 -- the writes that the rule asks for: a carry while the sector after the gap holds another series' live record, then the
 -- reservation
@@ -97,7 +99,7 @@ AtMostSoMany most =
     (f : Format) (s end supply : ℕ) (reading : List (List ℕ)) → HasRoom f s reading →
     length (performed f (plan f 7 s end reading) supply) ≤ most
 
--- with k carries a reservation takes 2 × (k + 1) writes and flushes; with that supply it succeeds, and with less it is
+-- a reservation tries a write and a flush for each of its steps: with a supply for all it succeeds, and with less it is
 -- stopped
 abbrev pub OperationsCounted : Type 0
 OperationsCounted =

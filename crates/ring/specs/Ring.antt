@@ -96,7 +96,8 @@ pub record Sized (f : Format) (reading : List (List ℕ)) : Type 0 where
 
 -- the gap holds no live record
 abbrev pub Free : Format → List (List ℕ) → Type 0
-Free f reading = (r : Record) → slot f reading (gap f reading) ≡ Some r → is_live f reading r ≡ false
+Free f reading =
+    (r : Record) → slot f reading (gap f reading) ≡ Some r → is_live f reading r ≡ false
 
 -- the record of a slot, if it is the live record of another series
 abbrev pub to_carry : Format → List (List ℕ) → ℕ → Option Record → Option Record
@@ -131,7 +132,11 @@ reservation_step f reading s end =
 -- the write of a carry: the record once more, with the next number and its own end
 abbrev pub carry_step : Format → List (List ℕ) → Record → Step
 carry_step f reading r =
-    record { work = Carry r.series; sector = gap f reading; entry = next f reading r.series r.end.0 }
+    record {
+      work = Carry r.series;
+      sector = gap f reading;
+      entry = next f reading r.series r.end.0;
+    }
 
 -- a carry and what follows it, or the reservation
 abbrev pub first_then :
@@ -144,7 +149,8 @@ first_then f reading s end rest (Some r) =
 unfoldable pub plan : Format → ℕ → ℕ → ℕ → List (List ℕ) → List Step
 plan f zero s end reading = reservation_step f reading s end ∷ []
 plan f (suc n) s end reading =
-    first_then f reading s end (λ r. plan f n s end (with_record f reading r)) (next_carry f reading s)
+    first_then f reading s end
+    (λ r. plan f n s end (with_record f reading r)) (next_carry f reading s)
 
 -- what there is to know of the sectors
 abbrev pub known : Format → List (List ℕ) → Known
@@ -172,7 +178,7 @@ live_among lives s = slice_index_or lives s none
 abbrev pub is_live_by : Known → Record → Bool
 is_live_by k r = nat_lt r.series 8 && r.sequence.0 == (live_among k.lives r.series).number.0
 
--- what is to be carried, by what is known: the live record of another series that is no newer than where the search began
+-- what is to be carried, by what is known: another series' live record, no newer than where the search began
 abbrev pub carry_of : Known → ℕ → ℕ → Content → Option Record
 carry_of k s start (Holds r) =
     if not (r.series == s) && (is_live_by k r && nat_le r.sequence.0 start) then Some r else None

@@ -146,4 +146,5 @@ module _ {D : Type 0} (moves : Moves D) (meaning : D → Meaning) where
   RunsWritten claim start r d sector r' d' =
       (value : Reserved) → value.series ≡ claim.series → value.end ≡ claim.end →
       (answer : Result (Unit {0}) DiskFault) (after : D) →
-      Tries d' (settle sector) answer after → Runs value start r d (reservation_answer value answer) r' after
+      Tries d' (settle sector) answer after →
+      Runs value start r d (reservation_answer value answer) r' after

@@ -19,7 +19,8 @@ module _ (f : Format) (s : ℕ) (whole : Meaning) where
   pub record Continues (m : Meaning) (steps : ℕ → List Step) : Type 0 where
     pub answers :
         (value : Reserved) (end : ℕ) →
-        outcome value (plan f 7 s end whole.reading) whole.supply ≡ outcome value (steps end) m.supply
+        outcome value (plan f 7 s end whole.reading) whole.supply
+        ≡ outcome value (steps end) m.supply
     pub goes :
         (end : ℕ) (after : Meaning) →
         Went m (performed f (steps end) m.supply) after →
@@ -49,12 +50,14 @@ module _ {D : Type 0} (moves : Moves D) (meaning : D → Meaning) where
     -- the disk has gone over by exactly the operations that the whole tries
     abbrev pub Tried : ℕ → D → Type 0
     Tried end d =
-        Chain moves start (tried f (plan f 7 s end (meaning start).reading) (meaning start).supply) d
+        Chain moves start
+        (tried f (plan f 7 s end (meaning start).reading) (meaning start).supply) d
 
     -- it has gone so far that with what is left it goes over by exactly those
     abbrev pub GoesOn : (ℕ → List Step) → D → Type 0
     GoesOn steps d =
-        (end : ℕ) (after : D) → Chain moves d (tried f (steps end) (meaning d).supply) after → Tried end after
+        (end : ℕ) (after : D) → Chain moves d (tried f (steps end) (meaning d).supply) after →
+        Tried end after
 
 -- a search may begin: the ring agrees with its disk, the series is one of eight, and sequence numbers suffice
 pub record MaySearch (r : Ring) (m : Meaning) (s : ℕ) : Type 0 where
@@ -69,7 +72,11 @@ reservation f reading s end = record { series = s; start = (live f reading s).en
 -- and its record in a sector
 abbrev pub written : Format → List (List ℕ) → ℕ → Rank → ℕ → Written
 written f reading s end sector =
-    record { claim = record { series = s; end = end }; start = (live f reading s).end; sector = sector }
+    record {
+      claim = record { series = s; end = end };
+      start = (live f reading s).end;
+      sector = sector;
+    }
 
 -- a reservation of series s up to an end, from the meaning that the whole began with
 module _ (f : Format) (s : ℕ) (end : Rank) (whole : Meaning) where

@@ -34,8 +34,8 @@ with_block blocks s block = record { 0 = slice_set blocks.0 s block }
 abbrev pub block_ends : Blocks → List Rank
 block_ends blocks = map (λ (block : Block). block.end) blocks.0
 
--- a block with the ranks from a start up to an end: it goes on where it ends at the start, and begins there otherwise, but
--- never below its next rank
+-- a block with the ranks from a start up to an end: it goes on where it ends at the start, and begins there otherwise,
+-- but never below its next rank
 abbrev pub extend : Rank → Rank → Block → Block
 extend start end b =
     record {

@@ -41,8 +41,8 @@ pub enum RingFault {
     Interrupted(Interrupted),
 }
 
-// What a denial tells: its number and, as far as it has them, the operation that was denied, the sector, the work that was
-// stopped, and the series.
+// What a denial tells: its number and, as far as it has them, the operation that was denied, the sector, the work that
+// was stopped, and the series.
 #[derive(Clone, Copy, PartialEq, Eq, Debug)]
 pub struct Particulars {
     pub number: u8,

@@ -4,8 +4,8 @@ ghost use Rattle.ring.specs.Ring.{newer, live_of, meet, note, next_known, carry_
 
 use record::{Content, Rank, Record, Sequence};
 
-// The live record of a series: its number and its end. Both are 0 where there is none: the rules give such a series the end 0, and
-// no record has the number 0, so an Option would tell nothing more.
+// The live record of a series: its number and its end. Both are 0 where there is none: such a series has the end 0, and
+// no record has the number 0.
 #[derive(Clone, Copy)]
 pub struct Live {
     pub number: Sequence,
@@ -89,8 +89,7 @@ impl Known {
         self.live(series).end
     }
 
-    // The live records, with another one for a series; as they are for a series above 7. After a get_mut in place of the test
-    // no proof knows the elements.
+    // The live records, with another one for a series; as they are for a series above 7.
     #[tactic(auto, using(std::proofs::lemmas::List::set_past))]
     fn with_live(self, series: u8, live: Live) -> [Live; 8]
         ensures { result ≡ slice_set self.lives series live }

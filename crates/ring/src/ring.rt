@@ -81,7 +81,7 @@ impl Ring {
         Ok(ring)
     }
 
-    // The highest sequence number of any record, 0 without one.
+    // The top record's sequence number, 0 without a record.
     pub fn top_record(&self) -> Sequence
         ensures value { result ≡ self.now.known.top }
         ensures reads { (m : Meaning) → Agrees self.now m →
@@ -175,7 +175,8 @@ impl Ring {
         ensures appends { let step = known_carry self.old entry in
             MatchResult result
             (λ _. Appends D.moves D.meaning self.old disk.old step (Ok tt) self.new disk.new)
-            (λ x. Appends D.moves D.meaning self.old disk.old step (Err x.fault) self.new disk.new) }
+            (λ x.
+            Appends D.moves D.meaning self.old disk.old step (Err x.fault) self.new disk.new) }
     {
         let claim = Claim::from(entry);
         let work = Work::Carry(claim.series);
@@ -184,7 +185,8 @@ impl Ring {
         during(work, disk.flush(gap))
     }
 
-    // Looks at the sector after the gap, and carries what is live there of another series, until nothing is; tells the gap.
+    // Looks at the sector after the gap, and carries what is live there of another series, until nothing is; tells the
+    // gap.
     fn clear_the_way<D: Disk>(&mut self, disk: &mut D, series: u8) -> Result<usize, RingFault>
         requires { self.old.known.top.0 + 8 ≤ LAST_SEQUENCE }
         ensures gap { IfOk result (λ gap. gap ≡ known_gap self.new) }
@@ -234,7 +236,8 @@ impl Ring {
         ensures starts { IfOk result (λ w. w.start ≡ known_end self.old.known claim.series) }
         ensures runs { let start = self.old.known.top.0 in
             MatchResult result
-            (λ w. RunsWritten D.moves D.meaning claim start self.old disk.old w.sector self.new disk.new)
+            (λ w.
+            RunsWritten D.moves D.meaning claim start self.old disk.old w.sector self.new disk.new)
             (λ x. RunsStopped D.moves D.meaning claim start self.old disk.old x self.new disk.new) }
     {
         let start = self.known.end(claim.series);
@@ -282,11 +285,13 @@ impl Ring {
             Agrees self.old (D.meaning disk.old) → refused ≡ None →
             Tried D.moves D.meaning self.old.format series disk.old end.0 disk.new }
         ensures ends { Agrees self.old (D.meaning disk.old) →
-            IfOk result (λ _. known_ends self.new.known ≡ slice_set (known_ends self.old.known) series end) }
+            IfOk result (λ _.
+            known_ends self.new.known ≡ slice_set (known_ends self.old.known) series end) }
         ensures runs { let refused = refusal self.old.format self.old.known.top.0 series end in
             let start = known_end self.old.known series in
             let value : Reserved = record { series = series; start = start; end = end } in
-            RunsUnlessRefused D.moves D.meaning refused value self.old disk.old result self.new disk.new }
+            RunsUnlessRefused D.moves D.meaning refused value
+            self.old disk.old result self.new disk.new }
         ensures laws { ReservationLaws }
         ensures tops { TopsCounted }
     {

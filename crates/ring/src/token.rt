@@ -11,8 +11,8 @@ use crate::known::{Claim, Known};
 use disk::{Disk, DiskFault};
 use record::Rank;
 
-// A reservation that is written and not yet flushed: what it claims, the first rank that is newly reserved, and the sector of
-// its record. No rank can be drawn from it, and it cannot be let go: it is confirmed by a flush, or given up by name.
+// A reservation whose record is written and not flushed: what it claims, the first rank that is newly reserved, and the
+// sector of its record. No rank can be drawn from it, and it cannot be let go: it is confirmed by a flush, or given up.
 pub struct Written {
     claim: Claim,
     start: Rank,
@@ -25,8 +25,8 @@ pub struct Unconfirmed {
     fault: DiskFault,
 }
 
-// A reservation that is flushed: the ranks of the series from the start up to below the end are newly reserved. Only `confirm`
-// makes one. It is used up by filling blocks with it.
+// A reservation that is flushed: the ranks of the series from the start up to below the end are newly reserved. Only
+// `confirm` makes one. It is used up by filling blocks with it.
 #[derive(PartialEq, Eq, Debug)]
 pub struct Reserved {
     series: u8,
@@ -41,8 +41,8 @@ struct Block {
     end: Rank,
 }
 
-// The blocks in hand of all eight series, in their order. They can neither be copied nor cloned, and a reservation fills the
-// block of its own series, so that no rank comes out of two blocks.
+// The blocks in hand of all eight series, in their order. They can neither be copied nor cloned, and a reservation fills
+// the block of its own series, so that no rank comes out of two blocks.
 #[derive(Drop)]
 pub struct Blocks([Block; 8]);
 
@@ -194,7 +194,7 @@ impl Blocks {
         }
     }
 
-    // Draws the next rank of a series, but none below a least one; none at or above the end, and none of a series above 7.
+    // Draws the next rank of a series, but none below a least one; none at or above the end, none of a series above 7.
     pub fn draw(&mut self, series: u8, least: Rank) -> Option<Drawn>
         ensures drawn { result ≡ draw series least self.old }
         ensures rest { self.new ≡ after_draw result self.old }
