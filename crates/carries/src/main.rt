@@ -6,12 +6,12 @@ ghost use Rattle.std.specs.Prelude.{◌≡◌, Some, IfOk, IsOkAnd, flat_map};
 ghost use Rattle.disk.specs.Blank.{WithoutRecords};
 ghost use Rattle.ring.specs.Left.{LawfulReservation};
 ghost use Rattle.ring.specs.Ring.{Agrees};
-ghost use Rattle.carries.specs.Texts.{work_text, answer_text, end_text, recovered_text};
+ghost use Rattle.carries.specs.Texts.{answer_text, end_text, recovered_text};
 ghost use Rattle.carries.specs.Stops.{format, series_told, Filled, CutBy, Stops, FilledAndStopped};
 
 use disk::{Disk, HoldBack, LatestWrite, MemoryDisk, WriteThrough};
 use record::{Rank, SECTOR_BYTES};
-use ring::{Blocks, Reserved, Ring, RingFault, Work};
+use ring::{Blocks, Reserved, Ring, RingFault};
 use std::{fmt, io};
 
 const SECTORS: usize = 10;
@@ -36,37 +36,13 @@ struct Recovered(Result<Ring, RingFault>);
 #[derive(Clone, Copy)]
 struct Ends([Rank; 8]);
 
-// What was being written when the current failed.
-#[derive(Clone, Copy)]
-struct Doing(Work);
-
-impl fmt::Display for Doing {
-    ghost output = { λ doing. Some (work_text doing.0) };
-
-    fn fmt<W: fmt::Write>(&self, f: &mut fmt::Formatter<W>) -> fmt::Result {
-        match self.0 {
-            Work::Carry(series) => write!(f, "carry of {series} "),
-            Work::Reservation(_) => write!(f, "reservation"),
-        }
-    }
-}
-
-// Blanks after the shorter texts keep what follows in one column.
 impl fmt::Display for Answer {
     ghost output = { λ answer. Some (answer_text answer.0) };
 
     fn fmt<W: fmt::Write>(&self, f: &mut fmt::Formatter<W>) -> fmt::Result {
         match self.0 {
-            Ok(series) => write!(f, "series {series} has reserved                     "),
-            Err(RingFault::Interrupted(stopped)) => match stopped.fault.sector_told() {
-                Some(sector) => {
-                    let operation = stopped.fault.operation;
-                    let doing = Doing(stopped.work);
-                    write!(f, "dark at the {operation} of sector {sector}, {doing}")
-                }
-                None => write!(f, "denied with {}", stopped.fault.number()),
-            },
-            Err(fault) => write!(f, "denied with {}", fault.number()),
+            Ok(series) => write!(f, "series {series} has reserved"),
+            Err(fault) => write!(f, "{fault}"),
         }
     }
 }
@@ -93,7 +69,7 @@ impl fmt::Display for Recovered {
                 let ends = Ends(ring.ends());
                 write!(f, "top record {top:>2}, ends{ends}")
             }
-            Err(fault) => write!(f, "denied with {}", fault.number()),
+            Err(fault) => write!(f, "{fault}"),
         }
     }
 }
@@ -167,7 +143,7 @@ fn stop_at<H: HoldBack>(rt: &HostRuntime, supply: u64, tear: u64) -> io::Result<
     let Ok((answer, recovered)) = fill_and_stop(&mut disk, supply, tear) else {
         return println!(rt; "the ring did not fill");
     };
-    println!(rt; "supply {supply:>2} | {answer} | tear {tear:>2}: {recovered}")
+    println!(rt; "supply {supply:>2}, tear {tear:>2} | {recovered} | {answer}")
 }
 
 fn main(rt: HostRuntime) -> io::Result<()> {
