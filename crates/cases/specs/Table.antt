@@ -18,7 +18,7 @@ use Rattle.server.specs.declared.state.Up.{Up}
 use Rattle.history.specs.declared.calls.Answer.TheVariants.{Give as OfGive, Cut as OfCut}
 use Rattle.history.specs.declared.calls.Call.TheVariants.{Give, Cut}
 use Rattle.history.specs.declared.calls.Turn.{Turn}
-use Rattle.simulator.specs.Files.{begun, print_of_lines, turns_of_lines, print_of_file}
+use Rattle.simulator.specs.Files.{print_of_lines, print_of_file, turns_of_file}
 use Rattle.simulator.specs.Kinds.{numbering_of}
 use Rattle.simulator.specs.Lines.{lines_of}
 use Rattle.simulator.specs.Stages.{runs}
@@ -48,7 +48,8 @@ refusal_of (draws s first n claimed) = 0
 
 -- a call of a server, and what it answered: a request of a series at a reading, or a cut with its tear and its new supply
 abbrev pub asked : ℕ → ℕ → Result Identifier ServerFault → Turn
-asked s reading answer = record { call = Give s (record { 0 = reading }); answer = Some (OfGive answer) }
+asked s reading answer =
+    record { call = Give s (record { 0 = reading }); answer = Some (OfGive answer) }
 
 abbrev pub cut_off : ℕ → ℕ → Result Sequence ServerFault → Turn
 cut_off tear supply answer = record { call = Cut tear supply; answer = Some (OfCut answer) }
@@ -71,7 +72,7 @@ pub data Case : Type 0 where
 abbrev pub Holds : Case → Type 0
 Holds (prints memory requests lines) = print_of_file memory (text requests) ≡ text lines
 Holds (goes_on run requests lines) = print_of_lines (lines_of (text requests)) run ≡ text lines
-Holds (calls memory requests turns) = turns_of_lines (lines_of (text requests)) (begun memory) ≡ turns
+Holds (calls memory requests turns) = turns_of_file memory (text requests) ≡ turns
 Holds (sums bytes sum) = crc bytes ≡ sum
 Holds (corrects byte seconds) = seconds_of (record { 0 = byte }) ≡ seconds
 Holds (has_floor byte raw floor) = time_floor (box_with 0 byte) (record { 0 = raw }) ≡ Some (record { 0 = floor })
@@ -114,7 +115,15 @@ table =
     (codes "     1   0  0                   0" ∷ codes "     2   0  0                   0" ∷ codes "     3   2  0                   1" ∷ codes "     4   0  0                   1" ∷ codes "     5   2 12                   2" ∷ codes "     6   0  0                   1" ∷ codes "     7   2  0                   4" ∷ [])
     ∷ prints memory [] []
     ∷ calls memory
-    (codes "D    1            10" ∷ codes "S    3             0" ∷ codes "G    2             0" ∷ codes "G  300             7" ∷ codes "C    5             9" ∷ codes "G    2             0" ∷ codes "G    8            +0" ∷ codes "G    2             0" ∷ [])
+    (codes "D    1            10"
+    ∷ codes "S    3             0"
+    ∷ codes "G    2             0"
+    ∷ codes "G  300             7"
+    ∷ codes "C    5             9"
+    ∷ codes "G    2             0"
+    ∷ codes "G    8            +0"
+    ∷ codes "G    2             0"
+    ∷ [])
     (asked 2 0 (Ok (record { 0 = 1 }))
     ∷ asked 255 7 (Err (Series 255))
     ∷ cut_off 5 9 (Ok (record { 0 = 1 }))

@@ -1,5 +1,6 @@
 -- What calls promise outright that begin on a disk without records; and hi/lo of every call of a history.
 use Rattle.std.proofs.Common.{◌≡◌, ℕ, List, [], ◌∷◌, Some, Ok, Err, refl, ap, ◌∙◌, subst}
+use Rattle.std.specs.List.{fold}
 use Rattle.disk.specs.Blank.{Unwritten, WithoutRecords, cleared}
 use Rattle.disk.specs.Devices.{Stands, stands, after_cut, memory_disk, memory_moves}
 use Rattle.disk.specs.Holding.{Holding}
@@ -7,12 +8,12 @@ use Rattle.disk.specs.declared.memory.MemoryDisk.{MemoryDisk}
 use Rattle.disk.specs.Meaning.{Meaning}
 use Rattle.disk.specs.Moves.{Moves}
 use Rattle.kind.specs.Meaning.{Numbering}
-use Rattle.ring.specs.Operations.{after_tries}
+use Rattle.ring.specs.Operations.{Op, put, settle, Move}
 use Rattle.ring.proofs.Determined.{determined}
 use Rattle.server.specs.Rules.{one}
 use Rattle.server.specs.declared.state.State.{State}
 use Rattle.history.specs.History.{Event, request, cut, tried_by}
-use Rattle.history.specs.Made.{Ran, RanFrom, RanBlank, RanSerially, stood_after}
+use Rattle.history.specs.Made.{Ran, RanFrom, RanBlank, RanSerially, stood_after_try, stood_after}
 use Rattle.history.specs.Promise.{FloorsZero, Obeys, HiLoThroughout, GoesOver}
 use Rattle.history.specs.declared.calls.Turn.{Turn}
 
@@ -46,6 +47,13 @@ hi_lo_throughout k start zeros (request s reading (Ok x) after ∷ past) obeys =
 hi_lo_throughout k start zeros (request s reading (Err fault) after ∷ past) obeys = hi_lo_throughout k start zeros past obeys.1
 hi_lo_throughout k start zeros (cut tear supply answer after ∷ past) obeys = hi_lo_throughout k start zeros past obeys.1
 
+-- each operation of a disk over memory is an equation
+stands_after_try :
+    {H : Type 0} (w : Holding H) (d d' : MemoryDisk H) (op : Op) → Unit {0} → Move (memory_moves w) d op d' →
+    Unit {0} × (stands d' ≡ stood_after_try w (stands d) op)
+stands_after_try w d d' (put i bytes) kept move = (tt, move)
+stands_after_try w d d' (settle i) kept move = (tt, move)
+
 -- a disk over memory goes over to the one that is told
 stands_after :
     {H : Type 0} (w : Holding H) (k : Numbering) (first : MemoryDisk H) (history : List Event) (d : MemoryDisk H) →
@@ -55,8 +63,8 @@ stands_after w k first [] d goes = ap stands goes
 stands_after w k first (cut tear supply answer after ∷ past) d goes =
     goes.2 ∙ ap (λ x. after_cut w x tear supply) (stands_after w k first past goes.0 goes.1)
 stands_after w k first (request s reading answer after ∷ past) d goes =
-    determined w goes.0 d _ goes.2
-    ∙ ap (λ x. after_tries w x (tried_by k (memory_disk w.before first) past x.supply (Some (one s reading)))) (stands_after w k first past goes.0 goes.1)
+    (determined (memory_moves w) (λ d'. Unit {0}) stands (stood_after_try w) (stands_after_try w) goes.0 d _ tt goes.2).1
+    ∙ ap (λ x. fold (stood_after_try w) x (tried_by k (memory_disk w.before first) past x.supply (Some (one s reading)))) (stands_after w k first past goes.0 goes.1)
 
 -- how a disk over memory stands, by what it means and what it holds back
 abbrev stand : {H : Type 0} → Meaning → H → Stands H

@@ -1,20 +1,19 @@
 -- What a request asks of the disk is what the ring's rule asks for.
-use Rattle.std.proofs.Common.{◌≡◌, ℕ, ◌+◌, ◌-◌, ◌^◌, ◌<◌, ◌≤◌, min, max, Bool, true, false, cond, List, [], length, Some, None, Option, sym, refl, ap, ◌∙◌, subst, ⊎_elim, arith}
-use Rattle.std.proofs.lemmas.Bool.{cases_lt, cond-true, cond-false, lt-ltb, le-ltb, le-leb, leb-true}
-use Rattle.record.specs.declared.numbers.Rank.{Rank}
+use Rattle.std.proofs.Common.{◌≡◌, ℕ, ◌+◌, ◌-◌, ◌^◌, ◌<◌, ◌≤◌, Bool, true, false, cond, List, [], length, Some, None, sym, refl, ap, ◌∙◌, subst, ⊎_elim, arith}
+use Rattle.std.proofs.lemmas.Bool.{cases_lt, cond-true, lt-ltb, le-ltb, le-leb, leb-true}
 use Rattle.record.specs.declared.numbers.Reading.{Reading as ClockReading}
 use Rattle.record.specs.declared.sector.Format.{Format}
 use Rattle.disk.specs.Meaning.{Meaning}
 use Rattle.kind.specs.Meaning.{Numbering}
 use Rattle.ring.specs.Left.{Recovers, Follows}
-use Rattle.ring.specs.Ring.{plan, Step}
+use Rattle.ring.specs.Ring.{plan}
 use Rattle.ring.proofs.Plans.{seven_carries, most_steps}
 use Rattle.ring.proofs.Starts.{agrees_recovers}
 use Rattle.server.specs.Rules.{format, Ask, one, Range, Wish, declines, draws, by_floor}
 use Rattle.server.specs.declared.fault.ServerFault.TheVariants.{Series}
 use Rattle.server.specs.declared.state.Up.{Up}
-use Rattle.history.specs.History.{Event, latest, end_in, next, rank_of, wish, steps_of, wanted_by, wanted, asked, dark, top_record, numbers_suffice}
-use Rattle.history.specs.Promise.{HasFloor, MustReserve, new_end, AsksByRule}
+use Rattle.history.specs.History.{Event, latest, end_in, next, wish, steps_of, wanted_by, wanted, asked, dark, top_record, numbers_suffice}
+use Rattle.history.specs.Promise.{MustReserve, new_end, AsksByRule}
 use Rattle.history.proofs.Decides.{floor_cases, block}
 use Rattle.history.proofs.Invariant.{IsUp}
 

@@ -3,11 +3,12 @@ use Rattle.std.specs.Prelude.{◌≡◌, ℕ, List, [], ◌∷◌, ◌++◌, map
 use Rattle.disk.specs.Meaning.{Meaning}
 use Rattle.disk.specs.Moves.{Moves}
 use Rattle.kind.specs.Meaning.{Numbering}
+use Rattle.std.specs.List.{fold}
 use Rattle.disk.specs.Blank.{Unwritten, WithoutRecords, zeros, cleared}
-use Rattle.disk.specs.Devices.{Stands, stands, after_cut, memory_disk, memory_moves}
+use Rattle.disk.specs.Devices.{Stands, stands, after_write, after_flush, after_cut, memory_disk, memory_moves}
 use Rattle.disk.specs.Holding.{Holding}
 use Rattle.disk.specs.declared.memory.MemoryDisk.{MemoryDisk}
-use Rattle.ring.specs.Operations.{Chain, after_tries}
+use Rattle.ring.specs.Operations.{Op, put, settle, Chain}
 use Rattle.history.specs.History.{Event, request, cut, asks, tried_by}
 use Rattle.history.specs.Promise.{Obeys, HiLoThroughout, Reached, GoesOver}
 use Rattle.server.specs.Rules.{one, tries}
@@ -88,6 +89,11 @@ module _ {D : Type 0} (moves : Moves D) (meaning : D → Meaning) (k : Numbering
     pub obeys : Obeys k start history
     pub goes : GoesOver moves meaning k first history d
 
+-- how a disk over memory stands after an operation that is tried
+abbrev pub stood_after_try : {H : Type 0} → Holding H → Stands H → Op → Stands H
+stood_after_try w x (put i bytes) = after_write w x i bytes
+stood_after_try w x (settle i) = after_flush w x i
+
 -- how a disk over memory stands after a history, by how it stood at first: the operations of each call tried, and the cuts
 abbrev pub stood_after :
     {H : Type 0} → Holding H → Numbering → Meaning → Stands H → List Event → Stands H
@@ -95,7 +101,7 @@ stood_after w k start x [] = x
 stood_after w k start x (cut tear supply answer after ∷ past) =
     after_cut w (stood_after w k start x past) tear supply
 stood_after w k start x (event ∷ past) =
-    after_tries w (stood_after w k start x past)
+    fold (stood_after_try w) (stood_after w k start x past)
     (tried_by k start past (stood_after w k start x past).supply (asks event))
 
 -- the same on a disk over memory that was cleared: there the calls leave nothing open

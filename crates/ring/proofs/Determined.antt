@@ -1,15 +1,15 @@
--- A disk over memory goes over by equations: what it is after any list of operations is determined.
-use Rattle.std.proofs.Common.{◌≡◌, List, [], ◌∷◌, ap, ◌∙◌}
-use Rattle.disk.specs.Devices.{stands, memory_moves}
-use Rattle.disk.specs.Holding.{Holding}
-use Rattle.disk.specs.declared.memory.MemoryDisk.{MemoryDisk}
-use Rattle.ring.specs.Operations.{Op, put, settle, Chain, after_tries}
+-- A disk whose relations are equations: what is seen of it after any list of operations is determined.
+use Rattle.std.proofs.Common.{◌≡◌, List, [], ◌∷◌, sym, ap, ◌∙◌, subst}
+use Rattle.std.specs.List.{fold}
+use Rattle.disk.specs.Moves.{Moves}
+use Rattle.ring.specs.Operations.{Op, Move, Chain}
 
-pub determined :
-    {H : Type 0} (w : Holding H) (d d' : MemoryDisk H) (ops : List Op) → Chain (memory_moves w) d ops d' →
-    stands d' ≡ after_tries w (stands d) ops
-determined w d d' [] same = ap stands same
-determined w d d' (put i bytes ∷ ops) chain =
-    determined w chain.0 d' ops chain.2 ∙ ap (λ x. after_tries w x ops) chain.1
-determined w d d' (settle i ∷ ops) chain =
-    determined w chain.0 d' ops chain.2 ∙ ap (λ x. after_tries w x ops) chain.1
+-- as long as the disk keeps what each operation keeps
+module _ {D X : Type 0} (moves : Moves D) (Keeps : D → Type 0) (seen : D → X) (after : X → Op → X) (each : (d d' : D) (op : Op) → Keeps d → Move moves d op d' → Keeps d' × (seen d' ≡ after (seen d) op)) where
+  pub determined :
+      (d d' : D) (ops : List Op) → Keeps d → Chain moves d ops d' → Keeps d' × (seen d' ≡ fold after (seen d) ops)
+  determined d d' [] keeps same = (subst Keeps (sym same) keeps, ap seen same)
+  determined d d' (op ∷ ops) keeps chain =
+      let first = each d chain.0 op keeps chain.1 in
+      let rest = determined chain.0 d' ops first.0 chain.2 in
+      (rest.0, rest.1 ∙ ap (λ (x : X). fold after x ops) first.1)

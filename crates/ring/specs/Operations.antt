@@ -4,8 +4,6 @@ use Rattle.record.specs.Sector.{encoded}
 use Rattle.record.specs.declared.numbers.Rank.{Rank}
 use Rattle.record.specs.declared.sector.Format.{Format}
 use Rattle.record.specs.declared.sector.Record.{Record}
-use Rattle.disk.specs.Devices.{Stands, after_write, after_flush}
-use Rattle.disk.specs.Holding.{Holding}
 use Rattle.disk.specs.Meaning.{Meaning, Wrote, Flushed, denied, answer_of}
 use Rattle.disk.specs.Moves.{Moves}
 use Rattle.disk.specs.declared.fault.Cause.TheVariants.{Dark}
@@ -44,12 +42,6 @@ module _ {D : Type 0} (moves : Moves D) where
   abbrev pub Chain : D → List Op → D → Type 0
   Chain d [] d' = d' ≡ d
   Chain d (op ∷ ops) d' = (between : D) × Move d op between × Chain between ops d'
-
--- how a disk over memory stands once these operations were tried
-abbrev pub after_tries : {H : Type 0} → Holding H → Stands H → List Op → Stands H
-after_tries w x [] = x
-after_tries w x (put i bytes ∷ ops) = after_tries w (after_write w x i bytes) ops
-after_tries w x (settle i ∷ ops) = after_tries w (after_flush w x i) ops
 
 -- the operations of these writes that succeed with so much supply: each write is followed by a flush
 unfoldable pub performed : Format → List Step → ℕ → List Op

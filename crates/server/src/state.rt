@@ -3,12 +3,12 @@ ghost use Rattle.std.specs.Prelude.{◌≡◌, [], nat_lt, cond, IfOk};
 ghost use Rattle.ring.specs.Operations.{Chain};
 ghost use Rattle.ring.specs.Ring.{Agrees};
 ghost use Rattle.ring.specs.Search.{refusal};
-ghost use Rattle.ring.specs.Token.{block_in, draw, after_draw};
+ghost use Rattle.ring.specs.Token.{block_in, draw, fill, after_draw};
 ghost use Rattle.server.specs.Rules.{awake, with_blocks, is_fatal, tries_for, Ready, Took};
 
 use disk::Disk;
 use record::Rank;
-use ring::{Blocks, Drawn, Ring, RingFault};
+use ring::{Blocks, Drawn, Reserved, Ring, RingFault};
 
 // A server that is up: its ring, and the blocks in hand of all series.
 #[derive(Drop)]
@@ -43,6 +43,13 @@ impl Up {
         self.blocks.draw(series, least)
     }
 
+    // Takes the ranks that were reserved in hand.
+    pub(crate) fn take(&mut self, reserved: Reserved)
+        ensures { self.new ≡ with_blocks self.old (fill reserved self.old.blocks) }
+    {
+        self.blocks.fill(reserved);
+    }
+
     // Reserves up to a new end, and takes the block in hand.
     #[tactic(auto, using(crate::proofs::Requests::took_well, crate::proofs::Requests::took_none))]
     pub(crate) fn extend<D: Disk>(
@@ -58,7 +65,7 @@ impl Up {
         ensures moves { Chain D.moves disk.old (tries_for self.old.ring (D.meaning disk.old) series end (refusal self.old.ring.format self.old.ring.known.top.0 series end)) disk.new }
     {
         let reserved = self.ring.reserve(disk, series, end)?;
-        self.blocks.fill(reserved);
+        self.take(reserved);
         Ok(())
     }
 

@@ -1,5 +1,5 @@
 -- Each of the two disks goes by its operations as a function, and so does a request.
-use Rattle.std.proofs.Common.{◌≡◌, ℕ, ◌-◌, Bool, true, false, cond, List, [], ◌∷◌, set, Some, None, Ok, Err, Option, Result, sym, refl, ap, ◌∙◌, subst}
+use Rattle.std.proofs.Common.{◌≡◌, ℕ, ◌-◌, Bool, true, false, cond, List, [], set, Some, None, Ok, Err, Option, Result, sym, refl, ap, ◌∙◌, subst}
 use Rattle.std.proofs.lemmas.List.{set-set, set-get_or}
 use Rattle.record.specs.declared.numbers.Identifier.{Identifier}
 use Rattle.record.specs.declared.numbers.Rank.{Rank}
@@ -8,7 +8,8 @@ use Rattle.disk.specs.Devices.{Stands, stands, before, faithful, torn_disk, writ
 use Rattle.disk.specs.Holding.{Holding}
 use Rattle.disk.specs.Meaning.{Meaning, at}
 use Rattle.kind.specs.Meaning.{Numbering}
-use Rattle.ring.specs.Operations.{Op, put, settle, Chain}
+use Rattle.ring.proofs.Determined.{determined}
+use Rattle.ring.specs.Operations.{Op, put, settle, Move, Chain}
 use Rattle.ring.specs.Ring.{known}
 use Rattle.ring.specs.Search.{Ended, refusal}
 use Rattle.ring.specs.declared.fault.RingFault.{RingFault}
@@ -24,7 +25,7 @@ use Rattle.simulator.specs.Requests.{LeftBy, after_reserving, reserved_by, decid
 use Rattle.simulator.specs.declared.device.Device.{Device}
 use Rattle.simulator.specs.declared.device.Device.TheVariants.{Faithful, Torn}
 use Rattle.simulator.specs.declared.device.Make.{Make}
-use Rattle.simulator.proofs.Tears.{means, write_keeps_make, flush_keeps_make}
+use Rattle.simulator.proofs.Tears.{means}
 
 -- a function of one of two values
 of_either : {A B : Type 0} (f : A → B) (b : Bool) (x y : A) → f (cond b x y) ≡ cond b (f x) (f y)
@@ -44,54 +45,51 @@ put_in w x i bytes =
 abbrev settled_in : {H : Type 0} → Holding H → Stands H → Stands H
 settled_in w x = record { reading = x.reading; beyond = x.beyond; held = w.nothing; supply = x.supply - 1 }
 
--- each operation is a function of what the disk means
-wrote_is :
-    (d d' : Device) (i : ℕ) (bytes : List ℕ) → device_moves.writes d i bytes d' →
-    meaning_of d' ≡ after_try (make_of d) (meaning_of d) (put i bytes)
-wrote_is (Faithful d) (Faithful d') i bytes e =
-    ap (means write_through.before) e
-    ∙ of_either (means write_through.before) (succeeds (faithful d) i) (put_in write_through (stands d) i bytes) (stands d)
-wrote_is (Torn d) (Torn d') i bytes e =
+-- each operation is a function of what the disk means, and leaves the same disk
+each_is :
+    (d d' : Device) (op : Op) → Move device_moves d op d' →
+    (make_of d' ≡ make_of d) × (meaning_of d' ≡ after_try (make_of d) (meaning_of d) op)
+each_is (Faithful d) (Faithful d') (put i bytes) e = (
+  refl,
+  ap (means write_through.before) e
+      ∙ of_either (means write_through.before) (succeeds (faithful d) i) (put_in write_through (stands d) i bytes) (stands d),
+)
+each_is (Torn d) (Torn d') (put i bytes) e =
     let xs = (stands d).reading in
-    let kept : set (set xs i bytes) i (at xs i) ≡ xs = set-set xs i bytes (at xs i) ∙ set-get_or xs i [] in
-    ap (means before) e
-    ∙ of_either (means before) (succeeds (torn_disk d) i) (put_in latest_write (stands d) i bytes) (stands d)
-    ∙ ap
-    (λ (ys : List (List ℕ)). cond (succeeds (torn_disk d) i) (record { reading = set xs i bytes; kept = ys; supply = d.supply - 1; beyond = (stands d).beyond }) (torn_disk d))
-    kept
-wrote_is (Faithful d) (Torn d') i bytes e = absurd e
-wrote_is (Torn d) (Faithful d') i bytes e = absurd e
-
-flushed_is :
-    (d d' : Device) (i : ℕ) → device_moves.flushes d i d' →
-    meaning_of d' ≡ after_try (make_of d) (meaning_of d) (settle i)
-flushed_is (Faithful d) (Faithful d') i e =
-    ap (means write_through.before) e
-    ∙ of_either (means write_through.before) (succeeds (faithful d) i) (settled_in write_through (stands d)) (stands d)
-flushed_is (Torn d) (Torn d') i e =
-    ap (means before) e
-    ∙ of_either (means before) (succeeds (torn_disk d) i) (settled_in latest_write (stands d)) (stands d)
-flushed_is (Faithful d) (Torn d') i e = absurd e
-flushed_is (Torn d) (Faithful d') i e = absurd e
+    let kept : set (set xs i bytes) i (at xs i) ≡ xs = set-set xs i bytes (at xs i) ∙ set-get_or xs i [] in (
+      refl,
+      ap (means before) e
+          ∙ of_either (means before) (succeeds (torn_disk d) i) (put_in latest_write (stands d) i bytes) (stands d)
+          ∙ ap
+          (λ (ys : List (List ℕ)). cond (succeeds (torn_disk d) i) (record { reading = set xs i bytes; kept = ys; supply = d.supply - 1; beyond = (stands d).beyond }) (torn_disk d))
+          kept,
+    )
+each_is (Faithful d) (Faithful d') (settle i) e = (
+  refl,
+  ap (means write_through.before) e
+      ∙ of_either (means write_through.before) (succeeds (faithful d) i) (settled_in write_through (stands d)) (stands d),
+)
+each_is (Torn d) (Torn d') (settle i) e = (
+  refl,
+  ap (means before) e
+      ∙ of_either (means before) (succeeds (torn_disk d) i) (settled_in latest_write (stands d)) (stands d),
+)
+each_is (Faithful d) (Torn d') (put i bytes) e = absurd e
+each_is (Torn d) (Faithful d') (put i bytes) e = absurd e
+each_is (Faithful d) (Torn d') (settle i) e = absurd e
+each_is (Torn d) (Faithful d') (settle i) e = absurd e
 
 -- so are any that are tried one after the other
 pub tries_are :
     (d d' : Device) (ops : List Op) → Chain device_moves d ops d' →
-    meaning_of d' ≡ after_tries (make_of d) (meaning_of d) ops
+    (make_of d' ≡ make_of d) × (meaning_of d' ≡ after_tries (make_of d) (meaning_of d) ops)
 unfolding after_tries
-tries_are d d' [] same = ap meaning_of same
-tries_are d d' (put i bytes ∷ ops) chain =
-    let m = wrote_is d chain.0 i bytes chain.1 in
-    let make = write_keeps_make d chain.0 i bytes chain.1 in
-    tries_are chain.0 d' ops chain.2
-    ∙ ap (λ (x : Make). after_tries x (meaning_of chain.0) ops) make
-    ∙ ap (λ (x : Meaning). after_tries (make_of d) x ops) m
-tries_are d d' (settle i ∷ ops) chain =
-    let m = flushed_is d chain.0 i chain.1 in
-    let make = flush_keeps_make d chain.0 i chain.1 in
-    tries_are chain.0 d' ops chain.2
-    ∙ ap (λ (x : Make). after_tries x (meaning_of chain.0) ops) make
-    ∙ ap (λ (x : Meaning). after_tries (make_of d) x ops) m
+tries_are d d' ops chain =
+    determined device_moves (λ x. make_of x ≡ make_of d) meaning_of (after_try (make_of d))
+    (λ x y op same move.
+    let is = each_is x y op move in
+    (is.0 ∙ same, is.1 ∙ ap (λ (make : Make). after_try make (meaning_of x) op) same))
+    d d' ops refl chain
 
 -- what a call leaves, by its parts
 same_left :

@@ -6,13 +6,12 @@ use Rattle.std.proofs.lemmas.List.{append-nil, take_all, take-take, take-append-
 use Rattle.std.proofs.lemmas.List.Elements.{filter_map-append}
 use Rattle.std.proofs.lemmas.Option.{none-some}
 use Rattle.std.specs.List.{cons_option, filter_map, flat_map}
-use Rattle.std.specs.declared.ops.ControlFlow.{ControlFlow}
 use Rattle.std.specs.declared.ops.ControlFlow.TheVariants.{Continue, Break}
 use Rattle.history.specs.declared.calls.Call.{Call}
 use Rattle.history.specs.declared.calls.Turn.{Turn}
 use Rattle.simulator.specs.Calls.{call_by, turn_in, added, Extends}
-use Rattle.simulator.specs.Feeds.{Holds, IsBegun, Takes, Answers, GoesOn, Stops, Ends}
-use Rattle.simulator.specs.Files.{flow_after, unless_broken, rows_after, rows_of, last_run, begun as begun_run, print_of_file, FileServed}
+use Rattle.simulator.specs.Feeds.{Holds, IsBegun, Takes, held_row, Answers, GoesOn, Stops, Ends}
+use Rattle.simulator.specs.Files.{Flow, flow_after, unless_broken, rows_after, rows_of, last_run, begun as begun_run, print_of_file, FileServed}
 use Rattle.simulator.specs.Histories.{RunServed}
 use Rattle.simulator.specs.Lines.{line_end, up_to, first_bytes, ended_if, lines_from, lines_of, held}
 use Rattle.simulator.specs.Request.{command_in, fields_in}
@@ -122,24 +121,21 @@ module _ (line rest more : List ℕ) (n : ℕ) (ends : line_end rest ≡ Some n)
       ∙ ap (λ (row : Row). row ∷ rows_after next row) row_is
 
   module _ (f f' : Feed) (print print' : List ℕ) (same : held f.partial ≡ take 22 (take 22 line ++ first_bytes rest)) where
-    abbrev pub taken : Row
-    taken = row_of (run_of f.simulator) (held f.partial)
-
     by_flow :
-        (flow : ControlFlow (Unit {0}) (Unit {0})) → Answers f print flow f' print' →
-        rows_of (lines_from (rest ++ more) line) (run_of f.simulator) ≡ taken ∷ unless_broken next taken flow
+        (flow : Flow) → Answers f print flow f' print' →
+        rows_of (lines_from (rest ++ more) line) (run_of f.simulator) ≡ held_row f ∷ unless_broken next (held_row f) flow
     by_flow flow a =
         tells_line (run_of f.simulator) (held f.partial) same
-        ∙ ap (λ (x : ControlFlow (Unit {0}) (Unit {0})). taken ∷ unless_broken next taken x) (sym a.flows)
+        ∙ ap (λ (x : Flow). held_row f ∷ unless_broken next (held_row f) x) (sym a.flows)
 
     pub run_goes_on :
         Answers f print (Continue tt) f' print' →
-        rows_of (lines_from (rest ++ more) line) (run_of f.simulator) ≡ taken ∷ next (run_of f'.simulator)
-    run_goes_on a = by_flow (Continue tt) a ∙ ap (λ (r : Run). taken ∷ next r) (sym a.takes.run)
+        rows_of (lines_from (rest ++ more) line) (run_of f.simulator) ≡ held_row f ∷ next (run_of f'.simulator)
+    run_goes_on a = by_flow (Continue tt) a ∙ ap (λ (r : Run). held_row f ∷ next r) (sym a.takes.run)
 
     pub run_stops :
         Answers f print (Break tt) f' print' →
-        rows_of (lines_from (rest ++ more) line) (run_of f.simulator) ≡ taken ∷ []
+        rows_of (lines_from (rest ++ more) line) (run_of f.simulator) ≡ held_row f ∷ []
     run_stops a = by_flow (Break tt) a
 
 -- bytes without a line feed are held
@@ -153,7 +149,7 @@ still_holds partial partial' line rest holds none filled =
     ∙ held_on line rest
 
 -- the last line
-nothing_follows : (row : Row) (flow : ControlFlow (Unit {0}) (Unit {0})) → unless_broken (rows_of []) row flow ≡ []
+nothing_follows : (row : Row) (flow : Flow) → unless_broken (rows_of []) row flow ≡ []
 unfolding rows_of
 nothing_follows row (Break done) = refl
 nothing_follows row (Continue done) = refl

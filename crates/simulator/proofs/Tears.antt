@@ -6,7 +6,6 @@ use Rattle.disk.specs.Tearing.{torn_equal}
 use Rattle.disk.specs.Memory.{sectors}
 use Rattle.disk.specs.declared.memory.MemoryDisk.{MemoryDisk}
 use Rattle.disk.specs.declared.torn.Held.{Held}
-use Rattle.ring.specs.Operations.{Op, put, settle, Chain}
 use Rattle.simulator.specs.Devices.{meaning_of, make_of, device_moves, torn_apart, cut_by}
 use Rattle.simulator.specs.declared.device.Device.{Device}
 use Rattle.simulator.specs.declared.device.Device.TheVariants.{Faithful, Torn}
@@ -41,39 +40,15 @@ means before x = record { reading = x.reading; kept = before x.held x.reading; s
 abbrev all_left : ℕ → List ℕ → List (List ℕ) → Meaning
 all_left supply beyond left = record { reading = left; kept = left; supply = supply; beyond = beyond }
 
--- a cut of either disk, by its own relation
+-- a cut of either disk, by its own relation: it is the same disk, as the tear leaves it
 pub cut_is :
     (d d' : Device) (tear supply : ℕ) → device_moves.cuts d tear supply d' →
-    meaning_of d' ≡ cut_by (make_of d) tear supply (meaning_of d)
-cut_is (Faithful d) (Faithful d') tear supply e = ap (means write_through.before) e
-cut_is (Torn d) (Torn d') tear supply e =
-    ap (means before) e
-    ∙ ap (all_left supply (stands d).beyond) (left_is tear d.held (stands d).reading)
+    (make_of d' ≡ make_of d) × (meaning_of d' ≡ cut_by (make_of d) tear supply (meaning_of d))
+cut_is (Faithful d) (Faithful d') tear supply e = (refl, ap (means write_through.before) e)
+cut_is (Torn d) (Torn d') tear supply e = (
+  refl,
+  ap (means before) e
+      ∙ ap (all_left supply (stands d).beyond) (left_is tear d.held (stands d).reading),
+)
 cut_is (Faithful d) (Torn d') tear supply e = absurd e
 cut_is (Torn d) (Faithful d') tear supply e = absurd e
-
--- each call keeps the make
-pub write_keeps_make : (d d' : Device) (i : ℕ) (bytes : List ℕ) → device_moves.writes d i bytes d' → make_of d' ≡ make_of d
-write_keeps_make (Faithful d) (Faithful d') i bytes e = refl
-write_keeps_make (Torn d) (Torn d') i bytes e = refl
-write_keeps_make (Faithful d) (Torn d') i bytes e = absurd e
-write_keeps_make (Torn d) (Faithful d') i bytes e = absurd e
-
-pub flush_keeps_make : (d d' : Device) (i : ℕ) → device_moves.flushes d i d' → make_of d' ≡ make_of d
-flush_keeps_make (Faithful d) (Faithful d') i e = refl
-flush_keeps_make (Torn d) (Torn d') i e = refl
-flush_keeps_make (Faithful d) (Torn d') i e = absurd e
-flush_keeps_make (Torn d) (Faithful d') i e = absurd e
-
-pub cut_keeps_make : (d d' : Device) (tear supply : ℕ) → device_moves.cuts d tear supply d' → make_of d' ≡ make_of d
-cut_keeps_make (Faithful d) (Faithful d') tear supply e = refl
-cut_keeps_make (Torn d) (Torn d') tear supply e = refl
-cut_keeps_make (Faithful d) (Torn d') tear supply e = absurd e
-cut_keeps_make (Torn d) (Faithful d') tear supply e = absurd e
-
--- so does any chain of operations
-pub keeps_make : (d d' : Device) (ops : List Op) → Chain device_moves d ops d' → make_of d' ≡ make_of d
-keeps_make d d' [] same = ap make_of same
-keeps_make d d' (put i bytes ∷ ops) chain =
-    keeps_make chain.0 d' ops chain.2 ∙ write_keeps_make d chain.0 i bytes chain.1
-keeps_make d d' (settle i ∷ ops) chain = keeps_make chain.0 d' ops chain.2 ∙ flush_keeps_make d chain.0 i chain.1

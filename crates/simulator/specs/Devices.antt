@@ -1,5 +1,6 @@
 -- The disks that a request file may choose, by what a disk means.
 use Rattle.std.specs.Prelude.{ℕ, ◌-◌, ◌*◌, Bool, cond, ◌&&◌, List, [], ◌∷◌, Some, None, Option, ◌==◌, nat_le, nat_lt, refl, slice_set}
+use Rattle.std.specs.List.{fold}
 use Rattle.disk.specs.Devices.{faithful, torn_disk, torn, memory_moves, write_through, latest_write}
 use Rattle.disk.specs.Meaning.{Meaning, Shaped, count}
 use Rattle.disk.specs.Memory.{IsSize, sectors}
@@ -109,5 +110,4 @@ after_try make m (settle i) = cond (succeeds m i) (settled m) m
 
 -- a disk after operations that are tried, one after the other
 unfoldable pub after_tries : Make → Meaning → List Op → Meaning
-after_tries make m [] = m
-after_tries make m (op ∷ ops) = after_tries make (after_try make m op) ops
+after_tries make m ops = fold (after_try make) m ops

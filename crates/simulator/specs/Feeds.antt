@@ -1,9 +1,8 @@
 -- A request file that comes in pieces.
 use Rattle.std.specs.Prelude.{◌≡◌, ℕ, List, [], ◌∷◌, ◌++◌, take}
 use Rattle.std.specs.List.{filter_map, flat_map}
-use Rattle.std.specs.declared.ops.ControlFlow.{ControlFlow}
 use Rattle.history.specs.declared.calls.Turn.{Turn}
-use Rattle.simulator.specs.Files.{flow_after, rows_of, last_run, begun}
+use Rattle.simulator.specs.Files.{Flow, flow_after, rows_of, last_run, begun}
 use Rattle.simulator.specs.Histories.{RunServed}
 use Rattle.simulator.specs.Lines.{lines_from, held}
 use Rattle.simulator.specs.Takes.{run_of, Row, row_of, print_of, turn_of}
@@ -21,20 +20,28 @@ pub record IsBegun (memory : List ℕ) (f : Feed) : Type 0 where
   pub served : RunServed f.simulator.stage []
   pub holds : Holds f.partial []
 
--- lines are taken: the run stands after them, they are printed, and the server has answered the calls that were made for them
-pub record Takes (s : Simulator) (print : List ℕ) (rows : List Row) (s' : Simulator) (print' : List ℕ) : Type 0 where
+-- lines are taken: the run stands after them, they are printed, and the server has answered the calls
+-- that were made for them
+pub record Takes (s : Simulator) (print : List ℕ) (rows : List Row) (s' : Simulator)
+    (print' : List ℕ) : Type 0 where
   pub run : run_of s' ≡ last_run (run_of s) rows
   pub prints : print' ≡ print ++ flat_map print_of rows
   pub serves :
-      (turns : List Turn) → RunServed s.stage turns → RunServed s'.stage (turns ++ filter_map turn_of rows)
+      (turns : List Turn) → RunServed s.stage turns →
+      RunServed s'.stage (turns ++ filter_map turn_of rows)
 
--- the line that is held is taken
-pub record Answers (f : Feed) (print : List ℕ) (flow : ControlFlow (Unit {0}) (Unit {0})) (f' : Feed) (print' : List ℕ) : Type 0 where
-  pub takes : Takes f.simulator print (row_of (run_of f.simulator) (held f.partial) ∷ []) f'.simulator print'
-  pub flows : flow ≡ flow_after (row_of (run_of f.simulator) (held f.partial)).done.answer
+-- the line that is held
+abbrev pub held_row : Feed → Row
+held_row f = row_of (run_of f.simulator) (held f.partial)
+
+-- it is taken
+pub record Answers (f : Feed) (print : List ℕ) (flow : Flow) (f' : Feed) (print' : List ℕ) : Type 0 where
+  pub takes : Takes f.simulator print (held_row f ∷ []) f'.simulator print'
+  pub flows : flow ≡ flow_after (held_row f).done.answer
   pub empty : held f'.partial ≡ []
 
--- a piece was read, up to what is left of it: whatever follows, the lines are those that were taken and those of what is left
+-- a piece was read, up to what is left of it: whatever follows, the lines are those that were taken and
+-- those of what is left
 pub record Reads (f : Feed) (line piece print : List ℕ) (f' : Feed) (left print' : List ℕ) : Type 0 where
   pub rows : List Row
   pub takes : Takes f.simulator print rows f'.simulator print'
@@ -63,4 +70,5 @@ Stops f piece print f' print' =
 -- the file has ended: the line that is held is taken
 abbrev pub Ends : Feed → List ℕ → Feed → List ℕ → Type 0
 Ends f print f' print' =
-    (line : List ℕ) → Holds f.partial line → Takes f.simulator print (rows_of (lines_from [] line) (run_of f.simulator)) f'.simulator print'
+    (line : List ℕ) → Holds f.partial line →
+    Takes f.simulator print (rows_of (lines_from [] line) (run_of f.simulator)) f'.simulator print'

@@ -13,13 +13,16 @@ use Rattle.simulator.specs.declared.answer.Answer.{Answer}
 use Rattle.simulator.specs.declared.answer.Denial.{Denial}
 use Rattle.simulator.specs.declared.stage.Stage.{Stage}
 
--- a denial of 2 to 6 ends the run
-abbrev pub flow_after : Result Answer Denial → ControlFlow (Unit {0}) (Unit {0})
+-- whether a run goes on: a denial of 2 to 6 ends it
+abbrev pub Flow : Type 0
+Flow = ControlFlow (Unit {0}) (Unit {0})
+
+abbrev pub flow_after : Result Answer Denial → Flow
 flow_after (Ok answer) = Continue tt
 flow_after (Err denial) = cond (ends denial) (Break tt) (Continue tt)
 
 -- the lines after a line, unless the run stops
-abbrev pub unless_broken : (Run → List Row) → Row → ControlFlow (Unit {0}) (Unit {0}) → List Row
+abbrev pub unless_broken : (Run → List Row) → Row → Flow → List Row
 unless_broken next row (Break done) = []
 unless_broken next row (Continue done) = next (run_after row)
 
@@ -52,9 +55,17 @@ begun memory = record { view = awaits_disk memory; taken = 0 }
 abbrev pub print_of_file : List ℕ → List ℕ → List ℕ
 print_of_file memory file = print_of_lines (lines_of file) (begun memory)
 
--- the calls that are made for its lines, with their answers, are those of a history that obeys the laws: the server of the stage
--- that it comes to has answered them
+-- where the program's run stands after a request file
+abbrev pub run_of_file : List ℕ → List ℕ → Run
+run_of_file memory file = last_run (begun memory) (rows_of (lines_of file) (begun memory))
+
+-- the calls that are made for the lines of a request file
+abbrev pub turns_of_file : List ℕ → List ℕ → List Turn
+turns_of_file memory file = turns_of_lines (lines_of file) (begun memory)
+
+-- a request file comes to a stage whose server has answered these calls: with their answers they are those
+-- of a history that obeys the laws
 pub record FileServed (memory file : List ℕ) : Type 0 where
   pub stage : Stage
-  pub comes_to : view stage ≡ (last_run (begun memory) (rows_of (lines_of file) (begun memory))).view
-  pub served : RunServed stage (turns_of_lines (lines_of file) (begun memory))
+  pub comes_to : view stage ≡ (run_of_file memory file).view
+  pub served : RunServed stage (turns_of_file memory file)

@@ -15,7 +15,7 @@ use Rattle.ring.specs.Ring.{recover}
 use Rattle.server.specs.Rules.{format, woken, top_told}
 use Rattle.server.specs.declared.fault.ServerFault.{ServerFault}
 use Rattle.server.specs.declared.state.State.{State}
-use Rattle.simulator.specs.Devices.{make_for, room, cut_by}
+use Rattle.simulator.specs.Devices.{meaning_of, make_of, make_for, room, cut_by}
 use Rattle.simulator.specs.Kinds.{numbering_of}
 use Rattle.simulator.specs.Request.{command_in, fields_in}
 use Rattle.simulator.specs.Requests.{LeftBy, given_by}
@@ -26,6 +26,7 @@ use Rattle.simulator.specs.declared.answer.Denial.{Denial}
 use Rattle.simulator.specs.declared.answer.Denial.TheVariants.{Malformed, Ended, Size, NoDevice, Setting, NotGiven, NotWoken}
 use Rattle.simulator.specs.declared.any_kind.AnyKind.{AnyKind}
 use Rattle.simulator.specs.declared.any_kind.AnyKind.TheVariants as kind
+use Rattle.simulator.specs.declared.device.Device.{Device}
 use Rattle.simulator.specs.declared.device.Make.{Make}
 use Rattle.simulator.specs.declared.request.Command.{Command}
 use Rattle.simulator.specs.declared.request.Command.TheVariants.{Disk, Serial, Time, Box, Give, Cut}
@@ -37,6 +38,11 @@ use Rattle.simulator.specs.declared.request.Item.TheVariants.{Letter}
 pub record Done : Type 0 where
   pub answer : Result Answer Denial
   pub after : View
+
+-- the same of a stage with a server
+abbrev pub done_on : Result Answer Denial → AnyKind → State → Device → List ℕ → Done
+done_on answer kind state disk spare =
+    record { answer = answer; after = runs (make_of disk) kind state (meaning_of disk) spare }
 
 -- a line that is denied
 abbrev pub denied : Denial → View → Done

@@ -58,10 +58,12 @@ impl<'a> Feed<'a> {
         Ok(flow_after(answer))
     }
 
-    // Takes the lines that end in a piece, appends their prints, and holds the last one where it has not ended. Breaks where the run
-    // stops.
+    // Takes the lines that end in a piece, appends their prints, and holds the last one where it has not
+    // ended. Breaks where the run stops.
     pub fn feed(&mut self, piece: &[u8], print: &mut Vec<u8>) -> Result<ControlFlow<()>, AllocError>
-        ensures { IfOk result (λ flow. MatchControlFlow flow (λ _. GoesOn self.old piece.now print.old.items self.new [] print.new.items) (λ _. Stops self.old piece.now print.old.items self.new print.new.items)) }
+        ensures { IfOk result (λ flow. MatchControlFlow flow
+            (λ _. GoesOn self.old piece.now print.old.items self.new [] print.new.items)
+            (λ _. Stops self.old piece.now print.old.items self.new print.new.items)) }
     {
         let mut rest = piece;
         while let Some(count) = self.partial.fill(rest) {

@@ -4,8 +4,8 @@ ghost use Rattle.simulator.specs.Columns.{NumbersInColumns};
 ghost use Rattle.simulator.specs.Calls.{turn_in, turn_for, Extends};
 ghost use Rattle.simulator.specs.Devices.{meaning_of, make_of};
 ghost use Rattle.simulator.specs.Histories.{HasServed, RunServed};
-ghost use Rattle.simulator.specs.Stages.{view, awaits_disk, memory_of, runs};
-ghost use Rattle.simulator.specs.Steps.{step_of, requested, cut_off};
+ghost use Rattle.simulator.specs.Stages.{view, awaits_disk, memory_of};
+ghost use Rattle.simulator.specs.Steps.{step_of, done_on, requested, cut_off};
 ghost use Rattle.simulator.specs.Takes.{run_of, taken_by, numbered, ended_by, stage_bytes};
 ghost use Rattle.simulator.specs.declared.request.Command.TheVariants.{Give, Cut};
 
@@ -39,10 +39,15 @@ fn asked_series(series: u64) -> u8
 }
 
 // A request of a series at a reading.
-#[tactic(auto, using(crate::proofs::Tears::keeps_make))]
 fn ask(server: &mut Server<Device<'_>, AnyKind>, fields: Fields) -> Result<Answer, Denial>
-    ensures serves { Extends (HasServed server.old.kind server.old.state server.old.disk) (turn_for Give fields result) (HasServed server.new.kind server.new.state server.new.disk) }
-    ensures asks { (spare : List ℕ) → record { answer = result; after = runs (make_of server.new.disk) server.new.kind server.new.state (meaning_of server.new.disk) spare } ≡ requested (make_of server.old.disk) server.old.kind server.old.state (meaning_of server.old.disk) spare fields }
+    ensures serves { Extends
+        (HasServed server.old.kind server.old.state server.old.disk)
+        (turn_for Give fields result)
+        (HasServed server.new.kind server.new.state server.new.disk) }
+    ensures asks { (spare : List ℕ) →
+        done_on result server.new.kind server.new.state server.new.disk spare
+        ≡ requested (make_of server.old.disk) server.old.kind server.old.state
+        (meaning_of server.old.disk) spare fields }
 {
     let series = fields.a;
     server
@@ -53,8 +58,13 @@ fn ask(server: &mut Server<Device<'_>, AnyKind>, fields: Fields) -> Result<Answe
 
 // A power cut with a tear and a new supply, and the fresh start after it.
 fn cut(server: &mut Server<Device<'_>, AnyKind>, fields: Fields) -> Result<Answer, Denial>
-    ensures serves { Extends (HasServed server.old.kind server.old.state server.old.disk) (turn_for Cut fields result) (HasServed server.new.kind server.new.state server.new.disk) }
-    ensures cuts { (spare : List ℕ) → record { answer = result; after = runs (make_of server.new.disk) server.new.kind server.new.state (meaning_of server.new.disk) spare } ≡ cut_off (make_of server.old.disk) server.old.kind (meaning_of server.old.disk) spare fields }
+    ensures serves { Extends
+        (HasServed server.old.kind server.old.state server.old.disk)
+        (turn_for Cut fields result)
+        (HasServed server.new.kind server.new.state server.new.disk) }
+    ensures cuts { (spare : List ℕ) →
+        done_on result server.new.kind server.new.state server.new.disk spare
+        ≡ cut_off (make_of server.old.disk) server.old.kind (meaning_of server.old.disk) spare fields }
 {
     server
         .cut(fields.a, fields.b)
@@ -78,7 +88,8 @@ impl<'a> Simulator<'a> {
     // Takes a request line: writes the first 34 bytes of the print line, and tells what the line was answered with. With a print
     // line of fewer bytes it is denied, and nothing changes.
     pub fn take(&mut self, line: &[u8], print: &mut [u8]) -> Result<Answer, Denial>
-        ensures takes { record { answer = result; run = run_of self.new; print = print.new } ≡ taken_by (run_of self.old) line.now print.old }
+        ensures takes { record { answer = result; run = run_of self.new; print = print.new }
+            ≡ taken_by (run_of self.old) line.now print.old }
         ensures serves { Extends (RunServed self.old.stage) (turn_in line.now result) (RunServed self.new.stage) }
         ensures memory { stage_bytes self.new.stage ≡ memory_of (view self.new.stage) }
         ensures numbers { NumbersInColumns }
@@ -96,7 +107,8 @@ impl<'a> Simulator<'a> {
     fn answer(&mut self, line: &[u8]) -> Result<Answer, Denial>
         ensures count { self.new.taken ≡ self.old.taken }
         ensures serves { Extends (RunServed self.old.stage) (turn_in line.now result) (RunServed self.new.stage) }
-        ensures answers { record { answer = result; after = view self.new.stage } ≡ ended_by (numbered self.old.taken (view self.old.stage) line.now) }
+        ensures answers { record { answer = result; after = view self.new.stage }
+            ≡ ended_by (numbered self.old.taken (view self.old.stage) line.now) }
     {
         let answer = if self.taken > LAST_LINE {
             Err(Denial::TooMany)
@@ -109,11 +121,11 @@ impl<'a> Simulator<'a> {
 
     // What a line does, by the stage and the command that its letter stands for. They are matched in place, since a stage passed
     // by value takes 14% longer a line.
-    #[tactic(auto, using(crate::proofs::Tears::cut_is, crate::proofs::Tears::cut_keeps_make))]
     fn step(&mut self, line: &[u8]) -> Result<Answer, Denial>
         ensures count { self.new.taken ≡ self.old.taken }
         ensures serves { Extends (RunServed self.old.stage) (turn_in line.now result) (RunServed self.new.stage) }
-        ensures steps { record { answer = result; after = view self.new.stage } ≡ step_of (view self.old.stage) line.now }
+        ensures steps { record { answer = result; after = view self.new.stage }
+            ≡ step_of (view self.old.stage) line.now }
     {
         match (&mut self.stage, command_in(line)) {
             (Stage::Ended(_), _) => Err(Denial::Ended),

@@ -5,7 +5,6 @@ use Rattle.simulator.specs.Kinds.{numbering_of}
 use Rattle.simulator.specs.Steps.{given, request_done}
 use Rattle.simulator.proofs.Exact.{given_is, tries_are}
 use Rattle.simulator.proofs.Histories.{request_served}
-use Rattle.simulator.proofs.Tears.{keeps_make}
 use Rattle.simulator.proofs.simulator.ask.Goals as goal
 
 pub returns-clause-serves : goal.returns-clause-serves
@@ -22,10 +21,9 @@ returns-clause-asks c spare =
     let d = c.args.server.now.disk in
     let kind = c.args.server.now.kind in
     let moves = c.give.ensures.moves in
-    let same = keeps_make d c.give.new.self.disk _ moves in
     let went = tries_are d c.give.new.self.disk _ moves in
     let gave =
-    given_is (make_of d) (numbering_of kind) (meaning_of d) _ _ _ _ c.args.server.now.state _ c.give.ensures.rules went in
+    given_is (make_of d) (numbering_of kind) (meaning_of d) _ _ _ _ c.args.server.now.state _ c.give.ensures.rules went.1 in
     let answers : c.map_err.result ≡ given c.args.fields.a c.give.result = search rules in
-    rw (answers, same, c.give.ensures.kind)
+    rw (answers, went.0, c.give.ensures.kind)
     (ap (request_done (make_of d) kind spare c.args.fields.a) (rw (← c.asked_series.ensures) gave))

@@ -3,7 +3,7 @@ use Rattle.std.proofs.Common.{rules, ◌≡◌, ap}
 use Rattle.simulator.specs.Devices.{make_of}
 use Rattle.simulator.specs.Steps.{woken_up, woken_on}
 use Rattle.simulator.proofs.Histories.{cut_served}
-use Rattle.simulator.proofs.Tears.{cut_is, cut_keeps_make}
+use Rattle.simulator.proofs.Tears.{cut_is}
 use Rattle.simulator.proofs.simulator.cut.Goals as goal
 
 pub returns-clause-serves : goal.returns-clause-serves
@@ -19,6 +19,6 @@ returns-clause-cuts c spare =
     let moves = c.cut.ensures.moves in
     let did = c.cut.ensures.rules in
     let answers : c.map_err.result ≡ woken_up c.cut.result = search rules in
-    let same = cut_keeps_make d c.cut.new.self.disk _ _ moves in
-    rw (answers, did.told, did.state, same, c.cut.ensures.kind)
-    (ap (woken_on (make_of d) c.args.server.now.kind spare) (cut_is d c.cut.new.self.disk _ _ moves))
+    let is = cut_is d c.cut.new.self.disk _ _ moves in
+    rw (answers, did.told, did.state, is.0, c.cut.ensures.kind)
+    (ap (woken_on (make_of d) c.args.server.now.kind spare) is.1)

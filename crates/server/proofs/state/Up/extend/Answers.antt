@@ -1,15 +1,13 @@
 -- The block that was reserved goes on where the one in hand ends.
-use Rattle.std.proofs.Common.{refl, ap}
+use Rattle.std.proofs.Common.{refl}
 use Rattle.std.proofs.lemmas.Result.{err_from_is_err_and}
-use Rattle.server.specs.Rules.{with_ring, with_blocks}
 use Rattle.server.proofs.Requests.{took_none, took_ends}
 use Rattle.server.proofs.state.Up.extend.Goals as goal
 
 pub returns-clause-ends : goal.returns-clause-ends
 returns-clause-ends g c =
     took_ends c.args.self.now _ c.requires.agrees c.requires.ends _ _ _ _ _ c.reserve.ensures.refused c.reserve.ensures.reserves
-    c.in_ok-reserved.reserved _ c.in_ok-reserved.was
-    (ap (with_blocks (with_ring c.args.self.now c.reserve.new.self)) c.fill.ensures.filled)
+    c.in_ok-reserved.reserved _ c.in_ok-reserved.was c.take.ensures
     (c.in_ok-reserved.ensures.ends c.requires.agrees)
 
 pub returns-in_err-reserved-clause-took : goal.returns-in_err-reserved-clause-took

@@ -1,11 +1,10 @@
 -- Each line of a piece is taken, and the last one held where it has not ended.
 use Rattle.std.proofs.Common.{rules, ◌≡◌, ◌∙◌, ◌++◌, ℕ, List, [], ◌∷◌, None, Some, take, refl, sym, ap, subst, append_assoc}
-use Rattle.std.specs.declared.ops.ControlFlow.{ControlFlow}
 use Rattle.std.specs.declared.ops.ControlFlow.TheVariants.{Continue, Break}
-use Rattle.simulator.specs.Feeds.{Answers}
-use Rattle.simulator.specs.Files.{rows_of}
-use Rattle.simulator.specs.Lines.{line_end, first_bytes, lines_of, held}
-use Rattle.simulator.specs.Takes.{Row, row_of, run_of}
+use Rattle.simulator.specs.Feeds.{Answers, held_row}
+use Rattle.simulator.specs.Files.{Flow, rows_of}
+use Rattle.simulator.specs.Lines.{line_end, first_bytes, lines_of}
+use Rattle.simulator.specs.Takes.{Row, run_of}
 use Rattle.simulator.specs.declared.feed.Feed.{Feed}
 use Rattle.simulator.proofs.Feeds.{line_goes_on, run_stops, run_goes_on, still_holds, takes_none, takes_more}
 use Rattle.simulator.proofs.feed.Feed.feed.Goals as goal
@@ -29,7 +28,7 @@ returns-then-is_break c line holds =
     let same = c.fill.ensures.holds ∙ ap (λ (xs : List ℕ). take 22 (xs ++ first_bytes rest)) at.holds in
     let stops : c.in_ok-answer.field-0 ≡ Break tt = search rules in
     let a =
-    subst (λ (flow : ControlFlow (Unit {0}) (Unit {0})). Answers f c.loop-count.print.items flow c.answer.new.self c.answer.new.print.items) stops c.in_ok-answer.ensures in
+    subst (λ (flow : Flow). Answers f c.loop-count.print.items flow c.answer.new.self c.answer.new.print.items) stops c.in_ok-answer.ensures in
     record {
       rows = _;
       takes = takes_more at.takes a.takes;
@@ -47,10 +46,10 @@ loop-count-preserved c line holds =
     let f : Feed = record { simulator = c.loop-count.self.simulator; partial = c.fill.new.self } in
     let ends : line_end rest ≡ Some c.in-Some.count = sym c.fill.ensures.end ∙ c.in-Some.is in
     let same = c.fill.ensures.holds ∙ ap (λ (xs : List ℕ). take 22 (xs ++ first_bytes rest)) at.holds in
-    let row = row_of (run_of f.simulator) (held f.partial) in
+    let row = held_row f in
     let goes : c.in_ok-answer.field-0 ≡ Continue tt = search rules in
     let a =
-    subst (λ (flow : ControlFlow (Unit {0}) (Unit {0})). Answers f c.loop-count.print.items flow c.answer.new.self c.answer.new.print.items) goes c.in_ok-answer.ensures in
+    subst (λ (flow : Flow). Answers f c.loop-count.print.items flow c.answer.new.self c.answer.new.print.items) goes c.in_ok-answer.ensures in
     record {
       rows = _;
       takes = takes_more at.takes a.takes;
