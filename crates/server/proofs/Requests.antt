@@ -16,7 +16,7 @@ use Rattle.ring.specs.Operations.{outcome}
 use Rattle.ring.specs.Ring.{known_end, known_ends, Agrees, Step}
 use Rattle.ring.specs.Left.{end_of}
 use Rattle.ring.specs.Search.{reservation, Ended}
-use Rattle.ring.specs.Token.{empty_block, block_in, with_block, block_ends, extended, filled, drawn, left_by}
+use Rattle.ring.specs.Token.{empty_block, block_in, with_block, block_ends, extend, fill, draw, after_draw}
 use Rattle.ring.specs.declared.fault.RingFault.{RingFault}
 use Rattle.ring.specs.declared.fault.Interrupted.{Interrupted as Stop}
 use Rattle.ring.specs.declared.fault.RingFault.TheVariants.{Interrupted}
@@ -99,7 +99,7 @@ module _ (u : Up) (ends : KnowsEnds u) where
       ∙ get_or-map-range_with_len (known_end u.ring.known) 0 8 s s no_block.end l (omega arith)
 
 -- blocks from which a rank is drawn end as before
-pub ends-drawn : (drawn : Option Drawn) (blocks : Blocks) → block_ends (left_by drawn blocks) ≡ block_ends blocks
+pub ends-drawn : (drawn : Option Drawn) (blocks : Blocks) → block_ends (after_draw drawn blocks) ≡ block_ends blocks
 ends-drawn None blocks = refl
 ends-drawn (Some d) blocks = map-set_same (λ (b : Block). b.end) blocks.0 d.series _ no_block refl
 
@@ -123,7 +123,7 @@ module _ (u : Up) (m : Meaning) (agrees : Agrees u.ring m) (ends : KnowsEnds u) 
         below e = grind arith
 
         -- the block of the series goes on
-        goes_on : s < 8 → filled value u.blocks ≡ with_block u.blocks s (record { next = (block_in u.blocks s).next; end = end })
+        goes_on : s < 8 → fill value u.blocks ≡ with_block u.blocks s (record { next = (block_in u.blocks s).next; end = end })
         goes_on l =
             let same : (block_in u.blocks s).end.0 ≡ end_of u.ring.format m.reading s =
             ap (λ (x : Rank). x.0) (end_known u ends s l)
@@ -133,7 +133,7 @@ module _ (u : Up) (m : Meaning) (agrees : Agrees u.ring m) (ends : KnowsEnds u) 
 
         pub took_well :
             (reserved : Reserved) (u' : Up) → answer ≡ Ok reserved →
-            u' ≡ record { ring = ring; blocks = filled reserved u.blocks } → TookBlock u m s end u' m'
+            u' ≡ record { ring = ring; blocks = fill reserved u.blocks } → TookBlock u m s end u' m'
         took_well reserved u' is has =
             let none = not_refused reserved is (ring_refusal u.ring s end) refl in
             let same : reserved ≡ value = outcome_is _ reserved _ _ ((reserves agrees none).answers ∙ is) in
@@ -142,19 +142,19 @@ module _ (u : Up) (m : Meaning) (agrees : Agrees u.ring m) (ends : KnowsEnds u) 
               reserves = subst (λ (x : Result Reserved RingFault). Reserves u.ring m s end x ring m') (is ∙ ap (λ (x : Reserved). Ok x) same) all_of;
               has =
                   has
-                  ∙ ap (λ (x : Reserved). with_blocks (with_ring u ring) (filled x u.blocks)) same
+                  ∙ ap (λ (x : Reserved). with_blocks (with_ring u ring) (fill x u.blocks)) same
                   ∙ ap (with_blocks (with_ring u ring)) (goes_on (below none));
             }
 
         -- and the blocks end where the ring knows that their series do
         pub took_ends :
-            (reserved : Reserved) (u' : Up) → answer ≡ Ok reserved → u' ≡ record { ring = ring; blocks = filled reserved u.blocks } →
+            (reserved : Reserved) (u' : Up) → answer ≡ Ok reserved → u' ≡ record { ring = ring; blocks = fill reserved u.blocks } →
             known_ends ring.known ≡ set (known_ends u.ring.known) s end → KnowsEnds u'
         took_ends reserved u' is has alone =
             let none = not_refused reserved is (ring_refusal u.ring s end) refl in
             let same : reserved ≡ value = outcome_is _ reserved _ _ ((reserves agrees none).answers ∙ is) in
-            subst KnowsEnds (sym (has ∙ ap (λ (x : Reserved). with_blocks (with_ring u ring) (filled x u.blocks)) same))
-            (map-set (λ (b : Block). b.end) u.blocks.0 s (extended value.start end (block_in u.blocks s))
+            subst KnowsEnds (sym (has ∙ ap (λ (x : Reserved). with_blocks (with_ring u ring) (fill x u.blocks)) same))
+            (map-set (λ (b : Block). b.end) u.blocks.0 s (extend value.start end (block_in u.blocks s))
             ∙ ap (λ (xs : List Rank). set xs s end) ends
             ∙ sym alone)
 
@@ -231,7 +231,7 @@ ready_knows k u m knows s end false u' m' took ends =
 
 -- and so does a draw
 pub drawn_knows :
-    (k : Numbering) (u : Up) (m : Meaning) (drawn : Option Drawn) → Knows k u m → Knows k (with_blocks u (left_by drawn u.blocks)) m
+    (k : Numbering) (u : Up) (m : Meaning) (drawn : Option Drawn) → Knows k u m → Knows k (with_blocks u (after_draw drawn u.blocks)) m
 drawn_knows k u m drawn knows =
     record { agrees = knows.agrees; form = knows.form; ends = ends-drawn drawn u.blocks ∙ knows.ends }
 
@@ -276,23 +276,23 @@ module _ {k : Numbering} {u : Up} {s : ℕ} {reading : ClockReading} {floor rank
             ap (tries_by u m) (asks_block k u s reading floor rank asks.below asks.floors asks.is asks.lawful (ltb-false rank.0 own.end.0 e))
             ∙ ap (λ (x : Rank). reserve_tries u.ring m s x) (sym asks.block)
 
-    drawn_below : (blocks : Blocks) → (block_in blocks s).next ≡ own.next → rank.0 < (block_in blocks s).end.0 → drawn s floor blocks ≡ Some d
+    drawn_below : (blocks : Blocks) → (block_in blocks s).next ≡ own.next → rank.0 < (block_in blocks s).end.0 → draw s floor blocks ≡ Some d
     drawn_below blocks same inside =
         let high : max (block_in blocks s).next.0 floor.0 ≡ rank.0 = ap (λ (x : Rank). max x.0 floor.0) same ∙ sym asks.is in
         rw (high, lt-ltb rank.0 (block_in blocks s).end.0 inside) refl
 
     abbrev Gives : Type 0
     Gives =
-        (drawn s floor u'.blocks ≡ Some d)
-        × Gave k (Awake u) m s reading (Ok (k.identifier s rank)) (Awake (with_blocks u' (left_by (Some d) u'.blocks))) m'
+        (draw s floor u'.blocks ≡ Some d)
+        × Gave k (Awake u) m s reading (Ok (k.identifier s rank)) (Awake (with_blocks u' (after_draw (Some d) u'.blocks))) m'
 
     in_hand : rank.0 < own.end.0 → u' ≡ u → m' ≡ m → Gives
     in_hand inside same-up same-meaning = (
-      ap (λ (x : Up). drawn s floor x.blocks) same-up ∙ drawn_below u.blocks refl inside,
-      subst (λ (w : Wish). Does (identified k) u m w (Ok (k.identifier s rank)) (Awake (with_blocks u' (left_by (Some d) u'.blocks))) m')
+      ap (λ (x : Up). draw s floor x.blocks) same-up ∙ drawn_below u.blocks refl inside,
+      subst (λ (w : Wish). Does (identified k) u m w (Ok (k.identifier s rank)) (Awake (with_blocks u' (after_draw (Some d) u'.blocks))) m')
           (sym (asks_inside k u s reading floor rank asks.below asks.floors asks.is asks.lawful inside)) (
             refl,
-            ap (λ (x : Up). Awake (with_blocks x (left_by (Some d) x.blocks))) same-up,
+            ap (λ (x : Up). Awake (with_blocks x (after_draw (Some d) x.blocks))) same-up,
             same-meaning,
           ),
     )
