@@ -121,15 +121,16 @@ pub record Given (k : Numbering) (start : Meaning) (past : List Event) (event : 
       end' ≤ max end (first + n + lost k (event ∷ past)) →
       (InBlocks k (event ∷ past) → Counted k end' (standing k start s None (event ∷ past))) → Series k start (event ∷ past) s end'
 
--- a call by its answer and the disk after it: it wants so many ranks
-pub record Draws {A : Type 0} (k : Numbering) (start : Meaning) (past : List Event) (ask : Ask) (event : Result A ServerFault → Meaning → Event) (s first n floor : ℕ) (given : A) : Type 0 where
-  pub below : s < 8
-  pub lawful : first + n ≤ k.top.0 + 1
-  pub asks_it : (r : Result A ServerFault) (m : Meaning) → asks (event r m) ≡ Some ask
-  pub leaves : (r : Result A ServerFault) (m : Meaning) → after_of (event r m) ≡ m
-  pub gives : (m : Meaning) → Given k start past (event (Ok given) m) s first n
-  pub denied : (fault : ServerFault) (m : Meaning) (t : ℕ) → GivesNone t (told (event (Err fault) m))
-  pub raises : (fault : ServerFault) (m : Meaning) → max (floor_since k s past) floor ≤ floor_by k s (told (event (Err fault) m)) (floor_since k s past)
+module _ {A : Type 0} (k : Numbering) (start : Meaning) (past : List Event) (ask : Ask) where
+  -- a call by its answer and the disk after it: it wants so many ranks
+  pub record Draws (event : Result A ServerFault → Meaning → Event) (s first n floor : ℕ) (given : A) : Type 0 where
+    pub below : s < 8
+    pub lawful : first + n ≤ k.top.0 + 1
+    pub asks_it : (r : Result A ServerFault) (m : Meaning) → asks (event r m) ≡ Some ask
+    pub leaves : (r : Result A ServerFault) (m : Meaning) → after_of (event r m) ≡ m
+    pub gives : (m : Meaning) → Given k start past (event (Ok given) m) s first n
+    pub denied : (fault : ServerFault) (m : Meaning) (t : ℕ) → GivesNone t (told (event (Err fault) m))
+    pub raises : (fault : ServerFault) (m : Meaning) → max (floor_since k s past) floor ≤ floor_by k s (told (event (Err fault) m)) (floor_since k s past)
 
 module _ {A : Type 0} {k : Numbering} {start : Meaning} {past : List Event} {u : Up} {ask : Ask} where
   module _ {event : Result A ServerFault → Meaning → Event} {s first n floor : ℕ} {given : A} (inv : IsUp k start past u) where
@@ -180,7 +181,26 @@ module _ {A : Type 0} {k : Numbering} {start : Meaning} {past : List Event} {u :
       -- with what else holds of the call by its answer, as it is shown where the ranks are given, where numbers run short and where the
       -- disk goes dark
       module _ (Also : Result A ServerFault → Meaning → Type 0) where
-        module _ (also_given : (m' : Meaning) (to : ℕ) → Went m (succeeded k start ask past) m' → Series k start (event (Ok given) m' ∷ past) s to → first + n ≤ to → 2 * length (asked k start ask past) ≤ m.supply → (end < first + n → top_record k start past + 8 ≤ 2 ^ 62 - 1) → Also (Ok given) m') where
+        -- where the ranks are given
+        abbrev AlsoGiven : Type 0
+        AlsoGiven =
+            (m' : Meaning) (to : ℕ) → Went m (succeeded k start ask past) m' → Series k start (event (Ok given) m' ∷ past) s to →
+            first + n ≤ to → 2 * length (asked k start ask past) ≤ m.supply →
+            (end < first + n → top_record k start past + 8 ≤ 2 ^ 62 - 1) → Also (Ok given) m'
+
+        -- where the disk goes dark
+        abbrev AlsoDark : Type 0
+        AlsoDark =
+            (fault : RingFault) (m' : Meaning) → Went m (succeeded k start ask past) m' →
+            m.supply < 2 * length (asked k start ask past) → Also (Err (OfRing fault)) m'
+
+        -- what is claimed, whatever the call answers
+        abbrev AllClaim : Range → Type 0
+        AllClaim claimed =
+            (r : Result A ServerFault) (left : Meaning) →
+            Claims k (InBlocks k (event r left ∷ past)) (lost k (event r left ∷ past)) end (next k start s past) floor first n claimed
+
+        module _ (also_given : AlsoGiven) where
           -- out of the block in hand
           pub draws_in_hand :
               wish k start ask past ≡ draws s first n None → first + n ≤ end → (r : Result A ServerFault) (after : State) (m' : Meaning) →
@@ -207,9 +227,9 @@ module _ {A : Type 0} {k : Numbering} {start : Meaning} {past : List Event} {u :
 
           -- after a reservation
           module _ (claimed : Range) (wants : wish k start ask past ≡ draws s first n (Some claimed)) where
-            module _ (claims : (r : Result A ServerFault) (left : Meaning) → Claims k (InBlocks k (event r left ∷ past)) (lost k (event r left ∷ past)) end (next k start s past) floor first n claimed) where
+            module _ (claims : AllClaim claimed) where
               module _ (also_short : numbers_suffice k start past ≡ false → Also (Err (OfRing Exhausted)) m) where
-                module _ (also_dark : (fault : RingFault) (m' : Meaning) → Went m (succeeded k start ask past) m' → m.supply < 2 * length (asked k start ask past) → Also (Err (OfRing fault)) m') where
+                module _ (also_dark : AlsoDark) where
                   abbrev to : Rank
                   to = record { 0 = claimed.end }
 
@@ -264,7 +284,8 @@ module _ {A : Type 0} {k : Numbering} {start : Meaning} {past : List Event} {u :
 
                         made_is :
                             (t : ℕ) (y : Option Meaning) →
-                            standing k start t y (x ∷ past) ≡ reserved_by k start t m.supply y (draws s first n (Some claimed)) steps ++ standing k start t y past
+                            standing k start t y (x ∷ past)
+                            ≡ reserved_by k start t m.supply y (draws s first n (Some claimed)) steps ++ standing k start t y past
                         made_is t y =
                             standing_is k start past x ask (d.asks_it r m') t y
                             ∙ ap (λ (w : Wish). reserved_by k start t m.supply y w (asked k start ask past) ++ standing k start t y past) wants
@@ -313,7 +334,9 @@ module _ {A : Type 0} {k : Numbering} {start : Meaning} {past : List Event} {u :
                               series = λ t l.
                                   rw here
                                   (⊎_elim
-                                  (λ same. subst (λ (y : ℕ). Series k start (event (Ok given) m' ∷ past) y (end_in k start m' y)) same (rw done.0.own own_reserved))
+                                  (λ same.
+                                  subst (λ (y : ℕ). Series k start (event (Ok given) m' ∷ past) y (end_in k start m' y)) same
+                                  (rw done.0.own own_reserved))
                                   (λ other.
                                   rw (done.0.others t (λ e. other (sym e)))
                                   (series_kept (inv.series t l) (event (Ok given) m') ((d.gives m').others t other) (rw (stands t, ne_eqb s t other) refl)))
@@ -328,7 +351,8 @@ module _ {A : Type 0} {k : Numbering} {start : Meaning} {past : List Event} {u :
 
                         stands_as :
                             (t : ℕ) (z : Option Meaning) →
-                            standing k start t z (y ∷ past) ≡ cond (eqb s t && left_standing k start t claimed.end z) (claimed ∷ []) [] ++ standing k start t z past
+                            standing k start t z (y ∷ past)
+                            ≡ cond (eqb s t && left_standing k start t claimed.end z) (claimed ∷ []) [] ++ standing k start t z past
                         stands_as t z =
                             made_is (Err fault) t z
                             ∙ ap (λ (rs : List Range). rs ++ standing k start t z past)
@@ -372,7 +396,8 @@ module _ {A : Type 0} {k : Numbering} {start : Meaning} {past : List Event} {u :
                               leaves = rw here (λ left supply cut. cut_within f s claimed.end m m' left supply may goes cut);
                               tops =
                                   rw here
-                                  (λ left supply cut. omega (arith, inv.tops, written_is (Err fault), (tops_counted f s claimed.end m m' may goes).1 left supply cut));
+                                  (λ left supply cut.
+                                  omega (arith, inv.tops, written_is (Err fault), (tops_counted f s claimed.end m m' may goes).1 left supply cut));
                               read_tops = rw here (omega (arith, inv.tops, written_is (Err fault), (tops_counted f s claimed.end m m' may goes).0));
                               series = λ t l. series_kept (inv.series t l) y (d.denied fault m' t) (none_stands t);
                               above = (claims (Err fault) m').above;
@@ -388,7 +413,9 @@ module _ {A : Type 0} {k : Numbering} {start : Meaning} {past : List Event} {u :
                     reserving r after m' ring (Ok reserved) ended answered =
                         let enough : 2 * length steps ≤ m.supply =
                         ⊎_elim
-                        (λ l. let f = (operations_counted (format k start) value steps m.supply).2 l in absurd (let z : ◌≡◌ {A = Result Reserved RingFault} (Err f.0) (Ok reserved) = sym f.1 ∙ ended.answers in cc))
+                        (λ l.
+                        let f = (operations_counted (format k start) value steps m.supply).2 l in
+                        absurd (let z : ◌≡◌ {A = Result Reserved RingFault} (Err f.0) (Ok reserved) = sym f.1 ∙ ended.answers in cc))
                         (λ l. l)
                         (cases_lt m.supply (2 * length steps)) in
                         let many = ap length asked_is in
@@ -402,7 +429,9 @@ module _ {A : Type 0} {k : Numbering} {start : Meaning} {past : List Event} {u :
                         let little : m.supply < 2 * length steps =
                         ⊎_elim
                         (λ l. l)
-                        (λ l. absurd (let z : ◌≡◌ {A = Result Reserved RingFault} (Ok value) (Err fault) = sym ((operations_counted (format k start) value steps m.supply).1 l) ∙ ended.answers in cc))
+                        (λ l.
+                        let whole = (operations_counted (format k start) value steps m.supply).1 l in
+                        absurd (let z : ◌≡◌ {A = Result Reserved RingFault} (Ok value) (Err fault) = sym whole ∙ ended.answers in cc))
                         (cases_lt m.supply (2 * length steps)) in
                         let tells = stopped_tells value steps m.supply fault ended.answers in
                         let many = ap length asked_is in

@@ -209,10 +209,18 @@ module _ (k : Numbering) (lawful : LawfulKind k) (start : Meaning) (past : List 
           Reserving u m s rank 1 claimed identifier answer after m' → AfterRequest k start past s reading answer after m'
       drawn_reserved outside wants did =
           draws_reserved inv it_draws Also laws_drawn claimed wants
-          (λ r left. claims k s end (next k start s past) 1 reading (lost k (event r left ∷ past)) lawful (lost_block k (event r left ∷ past)) refl mine.inside up_to outside)
+          (λ r left.
+          claims k s end (next k start s past) 1 reading (lost k (event r left ∷ past)) lawful (lost_block k (event r left ∷ past)) refl
+          mine.inside up_to outside)
           (λ numbers.
           let q : Quiet k start past (event (Err (OfRing Exhausted)) m) ask =
-          record { is = refl; here = refl; nothing = asked_lit inv ask ∙ ap (wanted_by k start past) wants ∙ cond-false (numbers_suffice k start past) (steps_of k start past s claimed) [] numbers } in
+          record {
+            is = refl;
+            here = refl;
+            nothing =
+                asked_lit inv ask ∙ ap (wanted_by k start past) wants
+                ∙ cond-false (numbers_suffice k start past) (steps_of k start past s claimed) [] numbers;
+          } in
           laws_denied k start past s reading m (touches_none q) inv.tops rule (OfRing Exhausted) (λ e. absurd cc)
           (λ l has. run_short (omega arith) (leb-false (top_record k start past + 8) (2 ^ 62 - 1) numbers)))
           (λ fault left touch little. laws_denied k start past s reading left touch inv.tops rule (OfRing fault) (λ e. absurd cc) (λ l has. goes_dark little))

@@ -77,7 +77,13 @@ GivesNone s tells = Unit {0}
 
 pub keeps : (k : Numbering) (start : Meaning) (past : List Event) (tells : Told) (s : ℕ) → GivesNone s tells → Keeps k start past tells s
 keeps k start past (gave t reading n xs) s other =
-    record { next_stays = rw other refl; after_stays = rw other refl; floor_rises = rw other (omega arith); cuts_stay = rw other refl; labels_stay = rw other refl }
+    record {
+      next_stays = rw other refl;
+      after_stays = rw other refl;
+      floor_rises = rw other (omega arith);
+      cuts_stay = rw other refl;
+      labels_stay = rw other refl;
+    }
 keeps k start past (refused t reading) s none =
     record {
       next_stays = refl;
@@ -150,7 +156,8 @@ module _ {k : Numbering} {start : Meaning} {past : List Event} {s end : ℕ} (in
         labelled =
             rw (is, same)
             (all_pushed k s n first (labels s past) lawful
-            (All-weaker (Label k s (after_last k start s past)) (Label k s first) (λ x h. (h.0, omega (arith, h.1, inv.low), h.2, h.3)) (labels s past) inv.labelled));
+            (All-weaker (Label k s (after_last k start s past)) (Label k s first) (λ x h. (h.0, omega (arith, h.1, inv.low), h.2, h.3))
+            (labels s past) inv.labelled));
         counted = counted;
       }
 

@@ -41,22 +41,26 @@ module _ {D : Type 0} (moves : Moves D) (meaning : D → Meaning) (k : Numbering
     cut_made tear supply answer is did cuts =
         record { event = cut tear supply answer (meaning d'); asked = sym is; answered = refl; reached = was_cut reached did cuts }
 
--- turns under way: those so far are answered
-pub record Serving {D : Type 0} (moves : Moves D) (meaning : D → Meaning) (k : Numbering) (first : D) (past : List Event) (turns : List Turn) (state : State) (d : D) : Type 0 where
-  pub events : List Event
-  pub answered : turns ≡ turns_of events
-  pub reached : Reached moves meaning k first (events ++ past) state d
+module _ {D : Type 0} (moves : Moves D) (meaning : D → Meaning) (k : Numbering) (first : D) (past : List Event) where
+  -- turns under way: those so far are answered
+  pub record Serving (turns : List Turn) (state : State) (d : D) : Type 0 where
+    pub events : List Event
+    pub answered : turns ≡ turns_of events
+    pub reached : Reached moves meaning k first (events ++ past) state d
 
 -- one more, by what a call extends, of a kind that stayed
 pub serving_step :
-    {D : Type 0} {moves : Moves D} {meaning : D → Meaning} {k k' : Numbering} {first : D} {past : List Event} {turns turns' : List Turn} {state : State} {d : D} {call : Call} {answer : Answer} {after : State} {d' : D} →
+    {D : Type 0} {moves : Moves D} {meaning : D → Meaning} {k k' : Numbering} {first : D} {past : List Event}
+    {turns turns' : List Turn} {state : State} {d : D} {call : Call} {answer : Answer} {after : State} {d' : D} →
     k' ≡ k → turns' ≡ turns ++ (record { call = call; answer = Some answer } ∷ []) →
     ((begin : D) (h : List Event) → Reached moves meaning k' begin h state d → Made moves meaning k' begin h call answer after d') →
     Serving moves meaning k first past turns state d → Serving moves meaning k first past turns' after d'
 serving_step {D} {moves} {meaning} {k} {k'} {first} {past} {turns} {turns'} {state} {d} {call} {answer} {after} {d'} same more extends so_far =
     let extends_k : (begin : D) (h : List Event) → Reached moves meaning k begin h state d → Made moves meaning k begin h call answer after d' =
     subst
-    (λ (x : Numbering). (begin : D) (h : List Event) → Reached moves meaning x begin h state d → Made moves meaning x begin h call answer after d') same extends in
+    (λ (x : Numbering).
+    (begin : D) (h : List Event) → Reached moves meaning x begin h state d →
+    Made moves meaning x begin h call answer after d') same extends in
     let made = extends_k first (so_far.events ++ past) so_far.reached in
     record {
       events = made.event ∷ so_far.events;
@@ -108,7 +112,9 @@ pub ran :
 ran {D} {moves} {meaning} {k} {k'} {first} {turns} {made} {state} {after} {d} {d'} sized same promise reached =
     let promise_k : (begin : D) (h : List Event) → Reached moves meaning k begin h state d → Served moves meaning k begin h turns made after d' =
     subst
-    (λ (x : Numbering). (begin : D) (h : List Event) → Reached moves meaning x begin h state d → Served moves meaning x begin h turns made after d') same promise in
+    (λ (x : Numbering).
+    (begin : D) (h : List Event) → Reached moves meaning x begin h state d →
+    Served moves meaning x begin h turns made after d') same promise in
     let all = promise_k first [] reached in
     let whole : all.events ++ [] ≡ all.events = append-nil all.events in
     record {

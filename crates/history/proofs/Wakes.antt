@@ -12,7 +12,7 @@ use Rattle.disk.specs.Meaning.{Meaning}
 use Rattle.kind.specs.Meaning.{Numbering, LawfulKind}
 use Rattle.disk.specs.Blank.{WithoutRecords}
 use Rattle.ring.specs.Left.{Recovers, end_of}
-use Rattle.ring.specs.Ring.{top, known, known_end, recovered, Step}
+use Rattle.ring.specs.Ring.{top, known, known_end, recover, Step}
 use Rattle.ring.specs.declared.ring.Ring.{Ring}
 use Rattle.ring.proofs.Cuts.{cut_at_rest}
 use Rattle.ring.proofs.Starts.{blank_recovers, blank_top, blank_end, recovers_answer, recovers_agrees, agrees_recovers, known_end_is}
@@ -44,14 +44,14 @@ module _ (k : Numbering) (start : Meaning) (m : Meaning) (recovers : Recovers (f
       sized : ℕ → Format
       sized n = record { tag = k.tag; top = k.top; sectors = n }
 
-  answers : recovered (format k m) m.reading ≡ Ok (ring_of k start m)
+  answers : recover (format k m) m.reading ≡ Ok (ring_of k start m)
   answers =
-      ap (λ (f : Format). recovered f m.reading) same_format ∙ recovers_answer (format k start) m.reading recovers
+      ap (λ (f : Format). recover f m.reading) same_format ∙ recovers_answer (format k start) m.reading recovers
 
   pub wakes : woken k m ≡ Awake (up_of k start m)
   wakes = ap awake answers
 
-  pub tells : top_told (recovered (format k m) m.reading) ≡ Ok (record { 0 = top (format k start) m.reading })
+  pub tells : top_told (recover (format k m) m.reading) ≡ Ok (record { 0 = top (format k start) m.reading })
   tells = ap top_told answers
 
   end-woken : (s : ℕ) → s < 8 → block_in (up_of k start m).blocks s ≡ empty_block (record { 0 = end_in k start m s })

@@ -1,5 +1,5 @@
 -- What a call of the ring makes of a request, and of what the server knows.
-use Rattle.std.proofs.Common.{◌≡◌, ℕ, zero, suc, ◌≤◌, List, [], ◌∷◌, length, get_or, set, Bool, true, false, cond, ltb, Option, Some, None, Ok, Err}
+use Rattle.std.proofs.Common.{◌≡◌, ℕ, zero, suc, ◌≤◌, List, [], ◌∷◌, length, get_or, set, Bool, true, false, ltb, Option, Some, None, Ok, Err}
 use Rattle.std.proofs.Common.{Result, refl, sym, ap, ◌∙◌, subst, min, max, ◌+◌, ◌-◌, ◌<◌, arith}
 use Rattle.std.proofs.lemmas.List.{get_or-set_same, length-map, map-set, set-set}
 use Rattle.std.proofs.lemmas.List.FromFn.{get_or-map-range_with_len, length-map-range_with_len}
@@ -16,7 +16,7 @@ use Rattle.ring.specs.Operations.{outcome}
 use Rattle.ring.specs.Ring.{known_end, known_ends, Agrees, Step}
 use Rattle.ring.specs.Left.{end_of}
 use Rattle.ring.specs.Search.{reservation, Ended}
-use Rattle.ring.specs.Token.{empty_block, block_in, with_block, block_ends, extended, filled, drawn, left_by}
+use Rattle.ring.specs.Token.{empty_block, block_in, with_block, block_ends, extend, fill, draw, after_draw}
 use Rattle.ring.specs.declared.fault.RingFault.{RingFault}
 use Rattle.ring.specs.declared.fault.Interrupted.{Interrupted as Stop}
 use Rattle.ring.specs.declared.fault.RingFault.TheVariants.{Interrupted}
@@ -36,6 +36,10 @@ use Rattle.server.specs.declared.fault.ServerFault.TheVariants.{AboveTop, Ring a
 use Rattle.server.specs.declared.state.State.{State}
 use Rattle.server.specs.declared.state.State.TheVariants.{Up as Awake, Down as Fallen}
 use Rattle.server.specs.declared.state.Up.{Up}
+
+-- what was answered was not denied
+ok_no_err : {A : Type 0} {x : A} {fault : RingFault} → ◌≡◌ {A = Result A RingFault} (Ok x) (Err fault) → ⊥
+ok_no_err e = let z : ◌≡◌ {A = ℕ} 0 1 = cc in omega arith
 
 -- a reservation that was stopped tells the operation that stopped it
 pub stopped_tells :
@@ -95,7 +99,7 @@ module _ (u : Up) (ends : KnowsEnds u) where
       ∙ get_or-map-range_with_len (known_end u.ring.known) 0 8 s s no_block.end l (omega arith)
 
 -- blocks from which a rank is drawn end as before
-pub ends-drawn : (drawn : Option Drawn) (blocks : Blocks) → block_ends (left_by drawn blocks) ≡ block_ends blocks
+pub ends-drawn : (drawn : Option Drawn) (blocks : Blocks) → block_ends (after_draw drawn blocks) ≡ block_ends blocks
 ends-drawn None blocks = refl
 ends-drawn (Some d) blocks = map-set_same (λ (b : Block). b.end) blocks.0 d.series _ no_block refl
 
@@ -113,14 +117,13 @@ module _ (u : Up) (m : Meaning) (agrees : Agrees u.ring m) (ends : KnowsEnds u) 
         not_refused : (reserved : Reserved) → answer ≡ Ok reserved → (o : Option RingFault) → ring_refusal u.ring s end ≡ o → ring_refusal u.ring s end ≡ None
         not_refused reserved is None e = e
         not_refused reserved is (Some fault) e =
-            absurd
-            (let z : ◌≡◌ {A = Result Reserved RingFault} (Ok reserved) (Err fault) = sym is ∙ (refused fault e).0 in let y : ◌≡◌ {A = ℕ} 0 1 = cc in omega arith)
+            absurd (ok_no_err (sym is ∙ (refused fault e).0))
 
         below : ring_refusal u.ring s end ≡ None → s < 8
         below e = grind arith
 
         -- the block of the series goes on
-        goes_on : s < 8 → filled value u.blocks ≡ with_block u.blocks s (record { next = (block_in u.blocks s).next; end = end })
+        goes_on : s < 8 → fill value u.blocks ≡ with_block u.blocks s (record { next = (block_in u.blocks s).next; end = end })
         goes_on l =
             let same : (block_in u.blocks s).end.0 ≡ end_of u.ring.format m.reading s =
             ap (λ (x : Rank). x.0) (end_known u ends s l)
@@ -130,7 +133,7 @@ module _ (u : Up) (m : Meaning) (agrees : Agrees u.ring m) (ends : KnowsEnds u) 
 
         pub took_well :
             (reserved : Reserved) (u' : Up) → answer ≡ Ok reserved →
-            u' ≡ record { ring = ring; blocks = filled reserved u.blocks } → TookBlock u m s end u' m'
+            u' ≡ record { ring = ring; blocks = fill reserved u.blocks } → TookBlock u m s end u' m'
         took_well reserved u' is has =
             let none = not_refused reserved is (ring_refusal u.ring s end) refl in
             let same : reserved ≡ value = outcome_is _ reserved _ _ ((reserves agrees none).answers ∙ is) in
@@ -139,19 +142,19 @@ module _ (u : Up) (m : Meaning) (agrees : Agrees u.ring m) (ends : KnowsEnds u) 
               reserves = subst (λ (x : Result Reserved RingFault). Reserves u.ring m s end x ring m') (is ∙ ap (λ (x : Reserved). Ok x) same) all_of;
               has =
                   has
-                  ∙ ap (λ (x : Reserved). with_blocks (with_ring u ring) (filled x u.blocks)) same
+                  ∙ ap (λ (x : Reserved). with_blocks (with_ring u ring) (fill x u.blocks)) same
                   ∙ ap (with_blocks (with_ring u ring)) (goes_on (below none));
             }
 
         -- and the blocks end where the ring knows that their series do
         pub took_ends :
-            (reserved : Reserved) (u' : Up) → answer ≡ Ok reserved → u' ≡ record { ring = ring; blocks = filled reserved u.blocks } →
+            (reserved : Reserved) (u' : Up) → answer ≡ Ok reserved → u' ≡ record { ring = ring; blocks = fill reserved u.blocks } →
             known_ends ring.known ≡ set (known_ends u.ring.known) s end → KnowsEnds u'
         took_ends reserved u' is has alone =
             let none = not_refused reserved is (ring_refusal u.ring s end) refl in
             let same : reserved ≡ value = outcome_is _ reserved _ _ ((reserves agrees none).answers ∙ is) in
-            subst KnowsEnds (sym (has ∙ ap (λ (x : Reserved). with_blocks (with_ring u ring) (filled x u.blocks)) same))
-            (map-set (λ (b : Block). b.end) u.blocks.0 s (extended value.start end (block_in u.blocks s))
+            subst KnowsEnds (sym (has ∙ ap (λ (x : Reserved). with_blocks (with_ring u ring) (fill x u.blocks)) same))
+            (map-set (λ (b : Block). b.end) u.blocks.0 s (extend value.start end (block_in u.blocks s))
             ∙ ap (λ (xs : List Rank). set xs s end) ends
             ∙ sym alone)
 
@@ -224,12 +227,11 @@ ready_knows k u m knows s end false u' m' took ends =
         (subst (λ (x : Ring). Ended u.ring.format s end m (Ok (reservation u.ring.format m.reading s end)) x m') (sym same) (took.reserves.reserves e))
         ends
     by_refusal (Some fault) e =
-        absurd
-        (let z : ◌≡◌ {A = Result Reserved RingFault} (Ok (reservation u.ring.format m.reading s end)) (Err fault) = (took.reserves.refused fault e).0 in let y : ◌≡◌ {A = ℕ} 0 1 = cc in omega arith)
+        absurd (ok_no_err ((took.reserves.refused fault e).0))
 
 -- and so does a draw
 pub drawn_knows :
-    (k : Numbering) (u : Up) (m : Meaning) (drawn : Option Drawn) → Knows k u m → Knows k (with_blocks u (left_by drawn u.blocks)) m
+    (k : Numbering) (u : Up) (m : Meaning) (drawn : Option Drawn) → Knows k u m → Knows k (with_blocks u (after_draw drawn u.blocks)) m
 drawn_knows k u m drawn knows =
     record { agrees = knows.agrees; form = knows.form; ends = ends-drawn drawn u.blocks ∙ knows.ends }
 
@@ -274,23 +276,23 @@ module _ {k : Numbering} {u : Up} {s : ℕ} {reading : ClockReading} {floor rank
             ap (tries_by u m) (asks_block k u s reading floor rank asks.below asks.floors asks.is asks.lawful (ltb-false rank.0 own.end.0 e))
             ∙ ap (λ (x : Rank). reserve_tries u.ring m s x) (sym asks.block)
 
-    drawn_below : (blocks : Blocks) → (block_in blocks s).next ≡ own.next → rank.0 < (block_in blocks s).end.0 → drawn s floor blocks ≡ Some d
+    drawn_below : (blocks : Blocks) → (block_in blocks s).next ≡ own.next → rank.0 < (block_in blocks s).end.0 → draw s floor blocks ≡ Some d
     drawn_below blocks same inside =
         let high : max (block_in blocks s).next.0 floor.0 ≡ rank.0 = ap (λ (x : Rank). max x.0 floor.0) same ∙ sym asks.is in
         rw (high, lt-ltb rank.0 (block_in blocks s).end.0 inside) refl
 
     abbrev Gives : Type 0
     Gives =
-        (drawn s floor u'.blocks ≡ Some d)
-        × Gave k (Awake u) m s reading (Ok (k.identifier s rank)) (Awake (with_blocks u' (left_by (Some d) u'.blocks))) m'
+        (draw s floor u'.blocks ≡ Some d)
+        × Gave k (Awake u) m s reading (Ok (k.identifier s rank)) (Awake (with_blocks u' (after_draw (Some d) u'.blocks))) m'
 
     in_hand : rank.0 < own.end.0 → u' ≡ u → m' ≡ m → Gives
     in_hand inside same-up same-meaning = (
-      ap (λ (x : Up). drawn s floor x.blocks) same-up ∙ drawn_below u.blocks refl inside,
-      subst (λ (w : Wish). Does (identified k) u m w (Ok (k.identifier s rank)) (Awake (with_blocks u' (left_by (Some d) u'.blocks))) m')
+      ap (λ (x : Up). draw s floor x.blocks) same-up ∙ drawn_below u.blocks refl inside,
+      subst (λ (w : Wish). Does (identified k) u m w (Ok (k.identifier s rank)) (Awake (with_blocks u' (after_draw (Some d) u'.blocks))) m')
           (sym (asks_inside k u s reading floor rank asks.below asks.floors asks.is asks.lawful inside)) (
             refl,
-            ap (λ (x : Up). Awake (with_blocks x (left_by (Some d) x.blocks))) same-up,
+            ap (λ (x : Up). Awake (with_blocks x (after_draw (Some d) x.blocks))) same-up,
             same-meaning,
           ),
     )
@@ -343,7 +345,7 @@ module _ {k : Numbering} {u : Up} {s : ℕ} {reading : ClockReading} {floor rank
         (fault : RingFault) (b : Bool) → ltb rank.0 own.end.0 ≡ b → Ready b u m s end' (Err fault) u' m' →
         Gave k (Awake u) m s reading (Err (OfRing fault)) (stopped u fault) m'
     denied_test fault true e ready =
-        absurd (let z : ◌≡◌ {A = Result (Unit {0}) RingFault} (Err fault) (Ok tt) = ready.0 in let y : ◌≡◌ {A = ℕ} 0 1 = cc in omega arith)
+        absurd (ok_no_err (sym ready.0))
     denied_test fault false e took = denied_by (ltb-false rank.0 own.end.0 e) fault took
 
     pub ready_gives : Ready (ltb rank.0 own.end.0) u m s end' (Ok tt) u' m' → Gives

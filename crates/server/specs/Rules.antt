@@ -8,7 +8,7 @@ use Rattle.record.specs.declared.sector.Format.{Format}
 use Rattle.disk.specs.Meaning.{Meaning, Cut, count}
 use Rattle.kind.specs.Meaning.{Numbering}
 use Rattle.ring.specs.Operations.{Op, tried}
-use Rattle.ring.specs.Ring.{known_ends, plan, recovered}
+use Rattle.ring.specs.Ring.{known_ends, plan, recover}
 use Rattle.ring.specs.Token.{empty_blocks, block_in, with_block}
 use Rattle.ring.specs.Search.{reservation, Ended, refusal}
 use Rattle.ring.specs.declared.fault.RingFault.{RingFault}
@@ -64,7 +64,9 @@ abbrev pub claim : Numbering → ℕ → ℕ → ℕ → Option Range
 claim k end first n =
     if nat_le (first + n) end
     then None
-    else Some (record { first = max end first; end = (block_end k (record { 0 = first + n - 1 })).0 })
+    else
+    let last : Rank = record { 0 = first + n - 1 } in
+    Some (record { first = max end first; end = (block_end k last).0 })
 
 -- by the rank: above the top, or drawn
 abbrev pub by_rank : Numbering → ℕ → ℕ → ℕ → ℕ → Wish
@@ -146,7 +148,8 @@ module _ (u : Up) (m : Meaning) (s : ℕ) (end : Rank) where
   Took (Err fault) u' m' = TookNone fault u' m'
 
 -- a block in hand that ends above a rank stays; else one is reserved
-abbrev pub Ready : Bool → Up → Meaning → ℕ → Rank → Result (Unit {0}) RingFault → Up → Meaning → Type 0
+abbrev pub Ready :
+    Bool → Up → Meaning → ℕ → Rank → Result (Unit {0}) RingFault → Up → Meaning → Type 0
 Ready true u m s end r u' m' = (r ≡ Ok tt) × (u' ≡ u) × (m' ≡ m)
 Ready false u m s end r u' m' = Took u m s end r u' m'
 
@@ -222,7 +225,7 @@ Gave k state m s reading r after m' = Acts (identified k) k state m (one s readi
 
 -- a server that is put together, or that wakes after a cut
 abbrev pub woken : Numbering → Meaning → State
-woken k m = awake (recovered (format k m) m.reading)
+woken k m = awake (recover (format k m) m.reading)
 
 -- what a cut answers: the top record, or why the server is down
 abbrev pub top_told : Result Ring RingFault → Result Sequence ServerFault
@@ -234,4 +237,4 @@ module _ (k : Numbering) (m : Meaning) (supply : ℕ) where
   pub record WasCut (r : Result Sequence ServerFault) (after : State) (m' : Meaning) : Type 0 where
     pub left : Cut m supply m'
     pub state : after ≡ woken k m'
-    pub told : r ≡ top_told (recovered (format k m') m'.reading)
+    pub told : r ≡ top_told (recover (format k m') m'.reading)

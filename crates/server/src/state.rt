@@ -2,7 +2,7 @@
 ghost use Rattle.std.specs.Prelude.{◌≡◌, nat_lt, IfOk};
 ghost use Rattle.ring.specs.Operations.{Chain};
 ghost use Rattle.ring.specs.Ring.{Agrees};
-ghost use Rattle.ring.specs.Token.{block_in, drawn, filled, left_by};
+ghost use Rattle.ring.specs.Token.{block_in, draw, fill, after_draw};
 ghost use Rattle.server.specs.Rules.{awake, with_blocks, is_fatal, ready_tries, reserve_tries, Ready, Took};
 
 use disk::Disk;
@@ -36,15 +36,15 @@ impl Up {
 
     // Draws a rank of a series, none below a least one.
     pub(crate) fn draw(&mut self, series: u8, least: Rank) -> Option<Drawn>
-        ensures drawn { result ≡ drawn series least self.old.blocks }
-        ensures rest { self.new ≡ with_blocks self.old (left_by result self.old.blocks) }
+        ensures drawn { result ≡ draw series least self.old.blocks }
+        ensures rest { self.new ≡ with_blocks self.old (after_draw result self.old.blocks) }
     {
         self.blocks.draw(series, least)
     }
 
     // Takes the ranks that were reserved in hand.
     pub(crate) fn take(&mut self, reserved: Reserved)
-        ensures { self.new ≡ with_blocks self.old (filled reserved self.old.blocks) }
+        ensures { self.new ≡ with_blocks self.old (fill reserved self.old.blocks) }
     {
         self.blocks.fill(reserved);
     }
