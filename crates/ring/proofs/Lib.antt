@@ -10,6 +10,7 @@ pub mod Leaves
 pub mod Plans
 pub mod Recovers
 pub mod Reserves
+pub mod Running
 pub mod Scans
 pub mod Searches
 pub mod Slots
