@@ -13,8 +13,9 @@ use Rattle.disk.specs.declared.fault.DiskFault.{DiskFault}
 use Rattle.disk.specs.declared.fault.Operation.TheVariants.{Write, Flush}
 use Rattle.ring.specs.Left.{Recovers}
 use Rattle.ring.specs.Operations.{Went, Chain, performed, tried, outcome}
-use Rattle.ring.specs.Ring.{top, gap, beyond, next, with_record, with_noted, known, next_carry, carry_step, reservation_step, plan, Step}
-use Rattle.ring.specs.Runs.{look, known_beyond, carry_in, known_carry, known_reservation, interruption, reservation_answer, Appends, Runs, unread, carries, stops, reserves}
+use Rattle.ring.specs.Ring.{top, gap, beyond, next, with_record, with_noted, known, known_end, live, next_carry, carry_step, reservation_step, plan, Agrees, Step}
+use Rattle.ring.specs.Runs.{look, known_beyond, carry_in, known_carry, known_reservation, interruption, reservation_answer, Appends, Runs, RunsUnlessRefused, unread, carries, stops, reserves}
+use Rattle.ring.specs.Search.{Ended, MayReserve, Tried, refusal, reservation}
 use Rattle.ring.specs.declared.fault.RingFault.{RingFault}
 use Rattle.ring.specs.declared.fault.Work.{Work}
 use Rattle.ring.specs.declared.fault.Work.TheVariants.{Carry, Reservation}
@@ -23,9 +24,10 @@ use Rattle.ring.specs.declared.ring.Ring.{Ring}
 use Rattle.ring.specs.declared.token.Reserved.{Reserved}
 use Rattle.ring.proofs.Carries.{carry_clear}
 use Rattle.ring.proofs.Knows.{known_written, carry_is, clear_from}
-use Rattle.ring.proofs.Plans.{Path, path_writable, path_carried, path_ends, recovers_written}
+use Rattle.ring.proofs.Plans.{Path, path_begins, path_writable, path_carried, path_ends, recovers_written}
 use Rattle.ring.proofs.Searches.{plan-ends, plan_carries, knows_gap, knows_next, told-dark}
-use Rattle.ring.proofs.Starts.{recovers_agrees}
+use Rattle.ring.proofs.Starts.{recovers_agrees, agrees_recovers, known_end_is}
+use Rattle.ring.proofs.Reserves.{may_from}
 use Rattle.ring.proofs.Writes.{Clear, Writable, gap_lies, beyond_lies}
 
 -- the ring that knows these sectors
@@ -235,3 +237,51 @@ module _ {D : Type 0} (moves : Moves D) (meaning : D → Meaning) (f : Format) w
         (sym (plan-ends f n s value.end.0 (meaning d).reading none))
         (by_answer n d path none x r' after
         (by_rule n d path r (λ (y : Ring). known_reservation y value) _ is (the_reservation n d path) x r' after appends))
+
+unrefused :
+    {D : Type 0} (moves : Moves D) (meaning : D → Meaning) (value : Reserved) (r : Ring) (d : D) (answer : Result Reserved RingFault) (r' : Ring) (after : D)
+    (refused : Option RingFault) → refused ≡ None → RunsUnlessRefused moves meaning refused value r d answer r' after →
+    Runs moves meaning value r.known.top.0 r d answer r' after
+unfolding RunsUnlessRefused
+unrefused moves meaning value r d answer r' after None is runs = runs
+unrefused moves meaning value r d answer r' after (Some fault) is runs = absurd (grind arith)
+
+-- a reservation that nothing refuses, on a ring that agrees with its disk
+module _ {D : Type 0} (moves : Moves D) (meaning : D → Meaning) (r : Ring) (d : D) (s : ℕ) (end : Rank) (agrees : Agrees r (meaning d)) (none : refusal r.format r.known.top.0 s end ≡ None) (answer : Result Reserved RingFault) (r' : Ring) (after : D) (runs : RunsUnlessRefused moves meaning (refusal r.format r.known.top.0 s end) (record { series = s; start = known_end r.known s; end = end }) r d answer r' after) where
+  may : MayReserve r (meaning d) s end
+  may = may_from r (meaning d) s end agrees none
+
+  start_is : known_end r.known s ≡ (live r.format (meaning d).reading s).end
+  start_is =
+      ap (λ (n : ℕ). rank_of n)
+      (ap (λ (k : Known). (known_end k s).0) agrees.knows ∙ known_end_is r.format (meaning d).reading s may.series)
+    where
+      rank_of : ℕ → Rank
+      rank_of n = record { 0 = n }
+
+  ends : Ends moves meaning r.format (reservation r.format (meaning d).reading s end) (plan r.format 7 s end.0 (meaning d).reading) d answer r' after
+  ends =
+      runs_on moves meaning r.format (reservation r.format (meaning d).reading s end) (top r.format (meaning d).reading)
+      may.series may.some may.ends may.numbers 7 r d answer r' after
+      (path_begins r.format s (meaning d).reading (agrees_recovers r (meaning d) agrees) may.series)
+      (ap (λ (k : Known). ring_of k) agrees.knows)
+      (subst (λ (n : ℕ). Runs moves meaning (reservation r.format (meaning d).reading s end) n r d answer r' after) (ap (λ (k : Known). k.top.0) agrees.knows)
+      (subst (λ (x : Rank). Runs moves meaning (record { series = s; start = x; end = end }) r.known.top.0 r d answer r' after) start_is
+      (unrefused moves meaning _ r d answer r' after _ none runs)))
+    where
+      ring_of : Known → Ring
+      ring_of k = record { format = r.format; known = k }
+
+  pub run_ends : Ended r.format s end (meaning d) answer r' (meaning after)
+  run_ends =
+      record {
+        agrees =
+            subst (λ (x : Ring). Agrees x (meaning after)) (sym ends.ring)
+            (recovers_agrees r.format (meaning after) ends.recovers);
+        format = ap (λ (x : Ring). x.format) ends.ring;
+        answers = ends.answers;
+        goes = ends.goes;
+      }
+
+  pub run_tries : Tried moves meaning r.format s d end.0 after
+  run_tries = ends.chain

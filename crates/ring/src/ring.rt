@@ -115,12 +115,7 @@ impl Ring {
 
     // What the sector after the gap holds.
     pub(crate) fn look<D: Disk>(&self, disk: &D) -> Result<Content, DiskFault>
-        ensures looks { result ≡ look self.now (D.meaning disk.now).reading }
-        ensures agrees { let f = self.now.format in
-            let m = D.meaning disk.now in
-            let i = beyond f m.reading in
-            Agrees self.now m → top f m.reading ≤ LAST_SEQUENCE →
-            result ≡ Ok (content f i (at m.reading i)) }
+        ensures { result ≡ look self.now (D.meaning disk.now).reading }
     {
         let sector = sector_of(self.known.top.0.saturating_add(2), self.format.sectors);
         let bytes = disk.read(sector)?;
@@ -163,15 +158,6 @@ impl Ring {
     // Carries a live record: writes it anew into the gap, and flushes.
     fn carry<D: Disk>(&mut self, disk: &mut D, entry: Record) -> Result<(), Interrupted>
         ensures work { IfErr result (λ stopped. stopped.work ≡ Carry entry.series) }
-        ensures effect { let m = D.meaning disk.old in
-            let after = D.meaning disk.new in
-            MatchResult result
-            (λ _. Carries self.old m entry self.new after)
-            (λ x. Denied self.old m entry.series entry.end x.fault self.new after) }
-        ensures moves { let gap = known_gap self.old in
-            let bytes = encoded self.old.format.tag (next_of self.old entry.series entry.end) in
-            let answer = answer_of Write (D.meaning disk.old) gap in
-            Chain D.moves disk.old (write_and_flush gap bytes answer) disk.new }
         ensures appends { let step = known_carry self.old entry in
             MatchResult result
             (λ _. Appends D.moves D.meaning self.old disk.old step (Ok tt) self.new disk.new)
@@ -190,18 +176,6 @@ impl Ring {
     fn clear_the_way<D: Disk>(&mut self, disk: &mut D, series: u8) -> Result<usize, RingFault>
         requires { self.old.known.top.0 + 8 ≤ LAST_SEQUENCE }
         ensures gap { IfOk result (λ gap. gap ≡ known_gap self.new) }
-        ensures search { let f = self.old.format in
-            let m = D.meaning disk.old in
-            let after = D.meaning disk.new in
-            MaySearch self.old m series → MatchResult result
-            (λ _. ClearedWay f series m self.new after)
-            (λ x. StoppedSearch f series m x self.new after) }
-        ensures moves { let f = self.old.format in
-            let reading = (D.meaning disk.new).reading in
-            let rest = λ (end : ℕ). reservation_step f reading series end ∷ [] in
-            MaySearch self.old (D.meaning disk.old) series → MatchResult result
-            (λ _. GoesOn D.moves D.meaning f series disk.old rest disk.new)
-            (λ _. (end : ℕ) → Tried D.moves D.meaning f series disk.old end disk.new) }
         ensures runs { let start = self.old.known.top.0 in
             MatchResult result
             (λ _. RunsClear D.moves D.meaning series start self.old disk.old self.new disk.new)
@@ -221,17 +195,6 @@ impl Ring {
     // Clears the way and writes the reservation, which is then to be confirmed or given up.
     fn begin<D: Disk>(&mut self, disk: &mut D, claim: Claim) -> Result<Written, RingFault>
         requires { self.old.known.top.0 + 8 ≤ LAST_SEQUENCE }
-        ensures begins { let f = self.old.format in
-            let m = D.meaning disk.old in
-            let after = D.meaning disk.new in
-            MayReserve self.old m claim.series claim.end → MatchResult result
-            (λ w. Begun f claim.series claim.end m w self.new after)
-            (λ x. Ended f claim.series claim.end m (Err x) self.new after) }
-        ensures moves { let f = self.old.format in
-            MayReserve self.old (D.meaning disk.old) claim.series claim.end → MatchResult result
-            (λ w. (after : D) → D.moves.flushes disk.new w.sector after →
-            Tried D.moves D.meaning f claim.series disk.old claim.end.0 after)
-            (λ _. Tried D.moves D.meaning f claim.series disk.old claim.end.0 disk.new) }
         ensures claims { IfOk result (λ w. w.claim ≡ claim) }
         ensures starts { IfOk result (λ w. w.start ≡ known_end self.old.known claim.series) }
         ensures runs { let start = self.old.known.top.0 in
