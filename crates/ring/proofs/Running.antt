@@ -1,5 +1,5 @@
 -- A reservation on a ring that knows its disk: however it runs, it answers and does what its plan asks for.
-use Rattle.std.proofs.Common.{◌≡◌, ℕ, zero, suc, ◌+◌, ◌<◌, ◌≤◌, List, [], ◌∷◌, length, set, Some, None, Ok, Err, Option, Result, sym, refl, ap, ◌∙◌, subst, inl, inr, arith}
+use Rattle.std.proofs.Common.{◌≡◌, ℕ, zero, suc, ◌+◌, ◌<◌, ◌≤◌, cond, eqb, List, [], ◌∷◌, length, Some, None, Ok, Err, Option, Result, sym, refl, ap, ◌∙◌, subst, inl, inr, arith}
 use Rattle.std.proofs.lemmas.Bool.{lt-ltb}
 use Rattle.std.proofs.lemmas.List.{length-set}
 use Rattle.record.specs.declared.sector.TheConstants.{LAST_SEQUENCE}
@@ -7,13 +7,15 @@ use Rattle.record.specs.Sector.{encoded}
 use Rattle.record.specs.declared.numbers.Rank.{Rank}
 use Rattle.record.specs.declared.sector.Format.{Format}
 use Rattle.record.specs.declared.sector.Record.{Record}
-use Rattle.disk.specs.Meaning.{Meaning, Wrote, Flushed, count}
+use Rattle.disk.specs.Meaning.{Meaning, Wrote, answer_of, denied as denial, count}
+use Rattle.disk.specs.declared.fault.Cause.TheVariants.{Dark}
+use Rattle.disk.specs.declared.fault.Operation.{Operation}
 use Rattle.disk.specs.Moves.{Moves}
 use Rattle.disk.specs.declared.fault.DiskFault.{DiskFault}
 use Rattle.disk.specs.declared.fault.Operation.TheVariants.{Write, Flush}
 use Rattle.ring.specs.Left.{Recovers}
 use Rattle.ring.specs.Operations.{Went, Chain, performed, tried, outcome}
-use Rattle.ring.specs.Ring.{top, gap, beyond, next, with_record, with_noted, known, known_end, live, next_carry, carry_step, reservation_step, plan, Agrees, Step}
+use Rattle.ring.specs.Ring.{top, gap, beyond, next, with_record, with_noted, known, known_end, live, next_of, known_gap, next_carry, carry_step, reservation_step, plan, Agrees, Step}
 use Rattle.ring.specs.Runs.{look, known_beyond, carry_in, known_carry, known_reservation, interruption, reservation_answer, Appends, Runs, RunsUnlessRefused, unread, carries, stops, reserves}
 use Rattle.ring.specs.Search.{Ended, MayReserve, Tried, refusal, reservation}
 use Rattle.ring.specs.declared.fault.RingFault.{RingFault}
@@ -24,16 +26,34 @@ use Rattle.ring.specs.declared.ring.Ring.{Ring}
 use Rattle.ring.specs.declared.token.Reserved.{Reserved}
 use Rattle.ring.proofs.Carries.{carry_clear}
 use Rattle.ring.proofs.Knows.{known_written, carry_is, clear_from}
-use Rattle.ring.proofs.Plans.{Path, path_begins, path_writable, path_carried, path_ends, recovers_written}
-use Rattle.ring.proofs.Searches.{plan-ends, plan_carries, knows_gap, knows_next, told-dark}
+use Rattle.ring.proofs.Plans.{Path, path_begins, path_writable, path_carried, path_ends, recovers_written, plan-ends, plan_carries}
 use Rattle.ring.proofs.Starts.{recovers_agrees, agrees_recovers, known_end_is}
 use Rattle.ring.proofs.Reserves.{may_from}
 use Rattle.ring.proofs.Writes.{Clear, Writable, gap_lies, beyond_lies}
+
+-- the ring knows the gap and the next record
+module _ (r : Ring) (m : Meaning) (a : Agrees r m) (low : top r.format m.reading ≤ LAST_SEQUENCE) where
+  pub knows_gap : known_gap r ≡ gap r.format m.reading
+  knows_gap = grind arith
+
+  pub knows_next : (s : ℕ) (end : Rank) → next_of r s end ≡ next r.format m.reading s end.0
+  knows_next s end = grind arith
+
+-- what a denial with the sector there tells
+abbrev supplied : Operation → ℕ → ℕ → Result (Unit {0}) DiskFault
+supplied operation i p = cond (eqb p 0) (Err (denial Dark operation i)) (Ok tt)
+
+by_supply : (operation : Operation) (i : ℕ) (fault : DiskFault) (p : ℕ) → supplied operation i p ≡ Err fault → (p ≡ 0) × (fault ≡ denial Dark operation i)
+by_supply operation i fault p h = grind arith
+
+pub told-dark : (operation : Operation) (m : Meaning) (i : ℕ) (fault : DiskFault) → i < count m → answer_of operation m i ≡ Err fault → (m.supply ≡ 0) × (fault ≡ denial Dark operation i)
+told-dark operation m i fault l e = by_supply operation i fault m.supply (rw (lt-ltb i (count m) l) at e)
 
 -- the ring that knows these sectors
 abbrev ring_at : Format → List (List ℕ) → Ring
 ring_at f reading = record { format = f; known = known f reading }
 
+-- and so the sector after the gap
 knows_beyond : (f : Format) (m : Meaning) → Recovers f m.reading → top f m.reading ≤ LAST_SEQUENCE → known_beyond (ring_at f m.reading) ≡ beyond f m.reading
 knows_beyond f m recovers low =
     let sized = recovers.sized in

@@ -1,16 +1,16 @@
 // The ring over any disk.
-ghost use Rattle.std.specs.Prelude.{◌≡◌, ℕ, [], ◌∷◌, ◌+◌, ◌^◌, ◌<◌, ◌≤◌, IfOk, IfErr, Some, None, Ok, Err, MatchResult, slice_set};
+ghost use Rattle.std.specs.Prelude.{◌≡◌, ◌+◌, ◌^◌, ◌<◌, ◌≤◌, IfOk, IfErr, Some, None, Ok, Err, MatchResult, slice_set};
 ghost use Rattle.ring.specs.Token.{empty_blocks};
 ghost use Rattle.ring.specs.Left.{end_of, AtMostSoMany, ReservationLaws, TopsCounted};
 ghost use Rattle.ring.specs.Faults.{with_work};
-ghost use Rattle.disk.specs.Meaning.{Meaning, at, count, answer_of};
+ghost use Rattle.disk.specs.Meaning.{Meaning, count, answer_of};
 ghost use Rattle.disk.specs.declared.fault.Operation.TheVariants.{Write};
-ghost use Rattle.ring.specs.Operations.{Writes, Carries, Denied, Chain, write_and_flush};
+ghost use Rattle.ring.specs.Operations.{Writes};
 ghost use Rattle.ring.specs.Runs.{look, known_carry, Appends, RunsUnlessRefused, RunsShort, RunsClear, RunsStopped, RunsWritten};
-ghost use Rattle.ring.specs.Search.{GoesOn, Tried, MaySearch, ClearedWay, StoppedSearch, MayReserve, Begun, Ended, refusal, admit};
+ghost use Rattle.ring.specs.Search.{Tried, Ended, refusal, admit};
 ghost use Rattle.ring.specs.declared.fault.Work.TheVariants.{Carry};
 ghost use Rattle.record.specs.Sector.{content, encoded};
-ghost use Rattle.ring.specs.Ring.{sector_of, known_gap, next_of, reservation_step, beyond, top, scan, foreign_below, recover, known_end, known_ends, Agrees};
+ghost use Rattle.ring.specs.Ring.{sector_of, known_gap, next_of, top, scan, foreign_below, recover, known_end, known_ends, Agrees};
 
 use crate::fault::{Interrupted, RingFault, Work, during};
 use crate::known::{Claim, Known};
