@@ -70,7 +70,9 @@ module _ (start : Meaning) (without : WithoutRecords start) where
         ends = omega (arith, asked.2);
         numbers = omega (arith, before.low);
       } in
-      let supplied = enough f (reservation f filled.0.reading (filling n).series (filling n).end) (plan f 7 (filling n).series (filling n).end.0 filled.0.reading) filled.0.supply filled.2.answers in
+      let supplied =
+      enough f (reservation f filled.0.reading (filling n).series (filling n).end)
+      (plan f 7 (filling n).series (filling n).end.0 filled.0.reading) filled.0.supply filled.2.answers in
       let whole = reserved_whole f (filling n).series (filling n).end.0 filled.0 m lawful supplied filled.2.goes in
       record { recovers = whole.0.recovers; kept = whole.1; low = omega (arith, before.low, whole.0.most) }
 

@@ -12,7 +12,9 @@ use Rattle.ring.proofs.Knows.{left, known_written, left_seven, native_written}
 use Rattle.ring.proofs.Writes.{Clear, Writable, top-written, free_written, sized_written}
 
 -- the plan, by whether something is to be carried
-pub plan-ends : (f : Format) (n s end : ℕ) (reading : List (List ℕ)) → next_carry f reading s ≡ None → plan f n s end reading ≡ reservation_step f reading s end ∷ []
+pub plan-ends :
+    (f : Format) (n s end : ℕ) (reading : List (List ℕ)) → next_carry f reading s ≡ None →
+    plan f n s end reading ≡ reservation_step f reading s end ∷ []
 unfolding plan
 plan-ends f n s end reading e = grind arith
 

@@ -12,14 +12,18 @@ use Rattle.ring.specs.declared.fault.Work.{Work}
 use Rattle.ring.specs.declared.ring.Ring.{Ring}
 
 -- a denial that came with its work
-pub work_and_fault : (work : Work) (answer : Result (Unit {0}) DiskFault) (x : Stop) → Err x ≡ with_work work answer → (x ≡ record { work = work; fault = x.fault }) × (answer ≡ Err x.fault)
+pub work_and_fault :
+    (work : Work) (answer : Result (Unit {0}) DiskFault) (x : Stop) → Err x ≡ with_work work answer →
+    (x ≡ record { work = work; fault = x.fault }) × (answer ≡ Err x.fault)
 work_and_fault work answer x e = grind arith
 
 -- what `map_err` passed on, or made its denial of
 pub passed_on : {A E : Type 0} (D : Type 0) (x : Result A E) (a : A) → MatchResult x (λ y. ◌≡◌ {A = Result A D} (Ok a) (Ok y)) (λ _. ⊥) → x ≡ Ok a
 passed_on D x a h = grind arith
 
-pub made_of : {A E D : Type 0} (x : Result A E) (d : D) (Q : E → Type 0) → MatchResult x (λ y. ◌≡◌ {A = Result A D} (Err d) (Ok y)) Q → (e : E) × (x ≡ Err e) × Q e
+pub made_of :
+    {A E D : Type 0} (x : Result A E) (d : D) (Q : E → Type 0) →
+    MatchResult x (λ y. ◌≡◌ {A = Result A D} (Err d) (Ok y)) Q → (e : E) × (x ≡ Err e) × Q e
 made_of x d Q h = grind arith
 
 -- what was admitted was not refused

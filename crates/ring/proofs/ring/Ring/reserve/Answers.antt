@@ -27,7 +27,8 @@ returns-clause-runs g c =
     let was = passed_on _ _ _ c.in_ok-reserved.ensures.cases in
     runs_unrefused g.D.Disk.moves g.D.Disk.meaning _ _ _ _ admit.0 _ _ _
     (flush_goes g.D.Disk.moves g.D.Disk.meaning (record { series = c.args.series; end = c.args.end }) _ _
-    (c.in_ok-written.ensures.claims ∙ admit.1) (c.in_ok-written.ensures.starts ∙ ap (known_end c.args.self.now.known) (ap (λ claim. claim.series) admit.1)) _ _ _ _ _
+    (c.in_ok-written.ensures.claims ∙ admit.1)
+    (c.in_ok-written.ensures.starts ∙ ap (known_end c.args.self.now.known) (ap (λ claim. claim.series) admit.1)) _ _ _ _ _
     (rw admit.1 at c.in_ok-written.ensures.runs) _
     c.confirm.ensures.moves _ (sym was ∙ c.confirm.ensures.answer)
     (MatchResult-at_ok _ _ _ was c.confirm.ensures.effect))
@@ -40,7 +41,8 @@ returns-in_err-reserved-clause-runs g c =
     rw (p.1, p.2)
     (runs_unrefused g.D.Disk.moves g.D.Disk.meaning _ _ _ _ admit.0 _ _ _
     (flush_stops g.D.Disk.moves g.D.Disk.meaning (record { series = c.args.series; end = c.args.end }) _ _
-    (c.in_ok-written.ensures.claims ∙ admit.1) (c.in_ok-written.ensures.starts ∙ ap (known_end c.args.self.now.known) (ap (λ claim. claim.series) admit.1)) _ _ _ _ _
+    (c.in_ok-written.ensures.claims ∙ admit.1)
+    (c.in_ok-written.ensures.starts ∙ ap (known_end c.args.self.now.known) (ap (λ claim. claim.series) admit.1)) _ _ _ _ _
     (rw admit.1 at c.in_ok-written.ensures.runs) _
     c.confirm.ensures.moves was.0 _ (sym was.1 ∙ c.confirm.ensures.answer)
     (MatchResult-at_err _ _ _ was.1 c.confirm.ensures.effect)
