@@ -55,29 +55,33 @@ module _ (start woken : Meaning) (supply : ℕ) (lawful : LawfulReservation (for
         numbers = rw same lawful.numbers;
       }
 
-  module _ (r' : Ring) (after end : Meaning) (answer : Result Reserved RingFault) (found : Result Ring RingFault) (ended : Ended f 7 (record { 0 = 3 }) woken answer r' after) (ends : Cut after 1000 end) (finds : found ≡ recover (format end) end.reading) where
-    left : Left f 7 3 woken.reading end.reading
-    left = cut_within f 7 3 woken after end 1000 lawful_woken ended.goes ends
+  module _ (r' : Ring) (after end : Meaning) (answer : Result Reserved RingFault) where
+    module _ (found : Result Ring RingFault) (ended : Ended f 7 (record { 0 = 3 }) woken answer r' after) where
+      module _ (ends : Cut after 1000 end) (finds : found ≡ recover (format end) end.reading) where
+        left : Left f 7 3 woken.reading end.reading
+        left = cut_within f 7 3 woken after end 1000 lawful_woken ended.goes ends
 
-    abbrev sized : ℕ → Format
-    sized n = record { tag = 1; top = record { 0 = 999999998 }; sectors = n }
+        abbrev sized : ℕ → Format
+        sized n = record { tag = 1; top = record { 0 = 999999998 }; sectors = n }
 
-    stops : (cuts : ℕ → ℕ → Meaning → Meaning → Type 0) (tear : ℕ) → cuts 0 supply start woken → cuts tear 1000 after end → Stops cuts start supply tear (series_told answer) found end
-    stops cuts tear first last =
-        record {
-          woken = woken;
-          begins = begins;
-          first = first;
-          answers = ap series_told (rw (same, begins.supplied) at ended.answers);
-          after = after;
-          goes =
-              subst (λ (n : ℕ). Went woken (performed f (plan f 7 7 3 start.reading) n) after) begins.supplied
-              (subst (λ (x : List (List ℕ)). Went woken (performed f (plan f 7 7 3 x) woken.supply) after) same ended.goes);
-          ends = ends;
-          last = last;
-          finds = finds ∙ ap (λ n. recover (sized n) end.reading) (sym left.recovers.sized.count);
-          leaves = rw same at left;
-        }
+        stops :
+            (cuts : ℕ → ℕ → Meaning → Meaning → Type 0) (tear : ℕ) → cuts 0 supply start woken →
+            cuts tear 1000 after end → Stops cuts start supply tear (series_told answer) found end
+        stops cuts tear first last =
+            record {
+              woken = woken;
+              begins = begins;
+              first = first;
+              answers = ap series_told (rw (same, begins.supplied) at ended.answers);
+              after = after;
+              goes =
+                  subst (λ (n : ℕ). Went woken (performed f (plan f 7 7 3 start.reading) n) after) begins.supplied
+                  (subst (λ (x : List (List ℕ)). Went woken (performed f (plan f 7 7 3 x) woken.supply) after) same ended.goes);
+              ends = ends;
+              last = last;
+              finds = finds ∙ ap (λ n. recover (sized n) end.reading) (sym left.recovers.sized.count);
+              leaves = rw same at left;
+            }
 
   -- the calls one after the other
   pub stopped :
@@ -85,7 +89,8 @@ module _ (start woken : Meaning) (supply : ℕ) (lawful : LawfulReservation (for
       Ok r ≡ recover (format woken) woken.reading →
       (Agrees r woken → refusal r.format r.known.top.0 7 (record { 0 = 3 }) ≡ None → Ended r.format 7 (record { 0 = 3 }) woken answer r' after) →
       Cut after 1000 end → found ≡ recover (format end) end.reading →
-      (cuts : ℕ → ℕ → Meaning → Meaning → Type 0) (tear : ℕ) → cuts 0 supply start woken → cuts tear 1000 after end → Stops cuts start supply tear (series_told answer) found end
+      (cuts : ℕ → ℕ → Meaning → Meaning → Type 0) (tear : ℕ) → cuts 0 supply start woken → cuts tear 1000 after end →
+      Stops cuts start supply tear (series_told answer) found end
   stopped r r' after end answer found told reserves ends finds cuts tear first last =
       let is : r ≡ ring = grind (arith, told ∙ wakes) in
       let ended = rw is at reserves in

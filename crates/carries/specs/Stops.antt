@@ -57,9 +57,9 @@ CutBy {D} moves meaning tear supply m end =
 -- a stop with this supply and this tear, from a disk that is filled or not
 module _ (cuts : ℕ → ℕ → Meaning → Meaning → Type 0) (start : Meaning) (supply tear : ℕ) where
   module _ (answer : Result ℕ RingFault) (found : Result Ring RingFault) (end : Meaning) where
-    -- the current fails and comes back with so much supply; the reservation answers what its plan answers with that supply,
-    -- and makes the writes and flushes that it allows; then a cut with the tear comes, and recovery answers as the sectors
-    -- read, which is a ring with the old ends or the new one
+    -- the current fails and comes back with so much supply; the reservation answers what its plan answers with that
+    -- supply, and makes the writes and flushes that it allows; then a cut with the tear comes, and recovery answers as
+    -- the sectors read, which is a ring with the old ends or the new one
     pub record Stops : Type 0 where
       pub woken : Meaning
       pub begins : Cut start supply woken
@@ -69,7 +69,8 @@ module _ (cuts : ℕ → ℕ → Meaning → Meaning → Type 0) (start : Meanin
           ≡ answer
       pub after : Meaning
       pub goes :
-          Went woken (performed (format start) (plan (format start) 7 7 3 start.reading) supply) after
+          Went woken
+          (performed (format start) (plan (format start) 7 7 3 start.reading) supply) after
       pub ends : Cut after 1000 end
       pub last : cuts tear 1000 after end
       pub finds : found ≡ recover (format start) end.reading

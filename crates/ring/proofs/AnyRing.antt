@@ -37,21 +37,22 @@ not_found :
 not_found r reading s start fault look = grind arith
 
 -- the search has come from one ring and disk to others
-module _ {D : Type 0} (moves : Moves D) (meaning : D → Meaning) (s start : ℕ) (r : Ring) (d : D) (between : Ring) (d' : D) (on : RunsOn moves meaning s start r d between d') where
-  pub turn_unread : (fault : DiskFault) → Err fault ≡ look between (meaning d').reading → RunsShort moves meaning s start r d (Disk fault) between d'
-  turn_unread fault look value same =
-      on value same _ _ _ (unread (rw same (not_found between (meaning d').reading s start fault look)))
+module _ {D : Type 0} (moves : Moves D) (meaning : D → Meaning) (s start : ℕ) (r : Ring) (d : D) where
+  module _ (between : Ring) (d' : D) (on : RunsOn moves meaning s start r d between d') where
+    pub turn_unread : (fault : DiskFault) → Err fault ≡ look between (meaning d').reading → RunsShort moves meaning s start r d (Disk fault) between d'
+    turn_unread fault look value same =
+        on value same _ _ _ (unread (rw same (not_found between (meaning d').reading s start fault look)))
 
-  module _ (q : Record) (due : carry_in between s start (look between (meaning d').reading) ≡ Ok (Some q)) (r'' : Ring) (d'' : D) where
-    pub turn_carries : Appends moves meaning between d' (known_carry between q) (Ok tt) r'' d'' → RunsOn moves meaning s start r d r'' d''
-    turn_carries appends value same answer r' after runs = on value same answer r' after (carries q (rw same due) appends runs)
+    module _ (q : Record) (due : carry_in between s start (look between (meaning d').reading) ≡ Ok (Some q)) (r'' : Ring) (d'' : D) where
+      pub turn_carries : Appends moves meaning between d' (known_carry between q) (Ok tt) r'' d'' → RunsOn moves meaning s start r d r'' d''
+      turn_carries appends value same answer r' after runs = on value same answer r' after (carries q (rw same due) appends runs)
 
-    pub turn_stopped :
-        (x : Interrupted) → x.work ≡ Carry q.series → Appends moves meaning between d' (known_carry between q) (Err x.fault) r'' d'' →
-        RunsShort moves meaning s start r d (Stopped x) r'' d''
-    turn_stopped x work appends value same =
-        subst (λ (w : Work). Runs moves meaning value start r d (Err (Stopped (record { work = w; fault = x.fault }))) r'' d'') (sym work)
-        (on value same _ r'' d'' (stops q (rw same due) appends))
+      pub turn_stopped :
+          (x : Interrupted) → x.work ≡ Carry q.series → Appends moves meaning between d' (known_carry between q) (Err x.fault) r'' d'' →
+          RunsShort moves meaning s start r d (Stopped x) r'' d''
+      turn_stopped x work appends value same =
+          subst (λ (w : Work). Runs moves meaning value start r d (Err (Stopped (record { work = w; fault = x.fault }))) r'' d'') (sym work)
+          (on value same _ r'' d'' (stops q (rw same due) appends))
 
 not_stopped : (work : Work) (done : Unit {0}) (answer : Result (Unit {0}) DiskFault) → Ok done ≡ with_work work answer → answer ≡ Ok tt
 not_stopped work done answer e = grind arith
@@ -66,27 +67,29 @@ appended moves meaning r d step r' between made notes (Ok done) after tries = (b
 appended moves meaning r d step r' between made notes (Err fault) after tries = inr (between, made, tries, notes)
 
 -- the search has ended, and the reservation is to be written
-module _ {D : Type 0} (moves : Moves D) (meaning : D → Meaning) (claim : Claim) (start : ℕ) (r : Ring) (d : D) (between : Ring) (d' : D) (ends : RunsClear moves meaning claim.series start r d between d') (r'' : Ring) (d'' : D) (goes : moves.writes d' (known_gap between) (encoded between.format.tag (next_of between claim.series claim.end)) d'') where
-  pub write_stops :
-      (x : Interrupted) → Err x ≡ with_work (Reservation claim.series) (answer_of Write (meaning d') (known_gap between)) →
-      meaning d'' ≡ meaning d' → r'' ≡ between → RunsStopped moves meaning claim start r d (Stopped x) r'' d''
-  write_stops x denied same-meaning same-ring value series end =
-      let told = work_and_fault (Reservation claim.series) (answer_of Write (meaning d') (known_gap between)) x denied in
-      rw (told.0, sym series)
-      (ends.on value series _ r'' d''
-      (reserves (Err x.fault) (rw series ends.clear)
-      (inl (record { answers = told.1; does = same-meaning; goes = rw (series, end) goes }, same-ring))))
+module _ {D : Type 0} (moves : Moves D) (meaning : D → Meaning) (claim : Claim) (start : ℕ) (r : Ring) (d : D) where
+  module _ (between : Ring) (d' : D) (ends : RunsClear moves meaning claim.series start r d between d') where
+    module _ (r'' : Ring) (d'' : D) (goes : moves.writes d' (known_gap between) (encoded between.format.tag (next_of between claim.series claim.end)) d'') where
+      pub write_stops :
+          (x : Interrupted) → Err x ≡ with_work (Reservation claim.series) (answer_of Write (meaning d') (known_gap between)) →
+          meaning d'' ≡ meaning d' → r'' ≡ between → RunsStopped moves meaning claim start r d (Stopped x) r'' d''
+      write_stops x denied same-meaning same-ring value series end =
+          let told = work_and_fault (Reservation claim.series) (answer_of Write (meaning d') (known_gap between)) x denied in
+          rw (told.0, sym series)
+          (ends.on value series _ r'' d''
+          (reserves (Err x.fault) (rw series ends.clear)
+          (inl (record { answers = told.1; does = same-meaning; goes = rw (series, end) goes }, same-ring))))
 
-  pub write_goes :
-      (done : Unit {0}) → Ok done ≡ with_work (Reservation claim.series) (answer_of Write (meaning d') (known_gap between)) →
-      Writes between (meaning d') claim.series claim.end r'' (meaning d'') →
-      RunsWritten moves meaning claim start r d (known_gap between) r'' d''
-  write_goes done made writes value series end answer after tries =
-      ends.on value series _ r'' after
-      (reserves answer (rw series ends.clear)
-      (appended moves meaning between d' (known_reservation between value) r'' d''
-      (rw (series, end) (record { answers = not_stopped (Reservation claim.series) done _ made; does = writes.0; goes = goes }))
-      (rw (series, end) writes.1) answer after tries))
+      pub write_goes :
+          (done : Unit {0}) → Ok done ≡ with_work (Reservation claim.series) (answer_of Write (meaning d') (known_gap between)) →
+          Writes between (meaning d') claim.series claim.end r'' (meaning d'') →
+          RunsWritten moves meaning claim start r d (known_gap between) r'' d''
+      write_goes done made writes value series end answer after tries =
+          ends.on value series _ r'' after
+          (reserves answer (rw series ends.clear)
+          (appended moves meaning between d' (known_reservation between value) r'' d''
+          (rw (series, end) (record { answers = not_stopped (Reservation claim.series) done _ made; does = writes.0; goes = goes }))
+          (rw (series, end) writes.1) answer after tries))
 
 confirmed_well :
     (w : Written) (answer : Result (Unit {0}) DiskFault) (reserved : Reserved) → Ok reserved ≡ confirm w answer →
@@ -97,24 +100,26 @@ confirmed_ill : (w : Written) (answer : Result (Unit {0}) DiskFault) (u : Unconf
 confirmed_ill w answer u e = grind arith
 
 -- the reservation is written, and its flush is tried
-module _ {D : Type 0} (moves : Moves D) (meaning : D → Meaning) (claim : Claim) (first : Rank) (w : Written) (claims : w.claim ≡ claim) (starts : w.start ≡ first) (start : ℕ) (r : Ring) (d : D) (r' : Ring) (d' : D) (runs : RunsWritten moves meaning claim start r d w.sector r' d') (d'' : D) (goes : moves.flushes d' w.sector d'') where
-  abbrev value : Reserved
-  value = record { series = claim.series; start = first; end = claim.end }
+module _ {D : Type 0} (moves : Moves D) (meaning : D → Meaning) (claim : Claim) (first : Rank) (w : Written) where
+  module _ (claims : w.claim ≡ claim) (starts : w.start ≡ first) (start : ℕ) (r : Ring) (d : D) (r' : Ring) where
+    module _ (d' : D) (runs : RunsWritten moves meaning claim start r d w.sector r' d') (d'' : D) (goes : moves.flushes d' w.sector d'') where
+      abbrev value : Reserved
+      value = record { series = claim.series; start = first; end = claim.end }
 
-  pub flush_goes :
-      (reserved : Reserved) → Ok reserved ≡ confirm w (answer_of Flush (meaning d') w.sector) → Flushed (meaning d') (meaning d'') →
-      Runs moves meaning value start r d (Ok reserved) r' d''
-  flush_goes reserved e flushed =
-      let told = confirmed_well w _ reserved e in
-      rw (told.1, claims, starts) (runs value refl refl (Ok tt) d'' (record { answers = told.0; does = flushed; goes = goes }))
+      pub flush_goes :
+          (reserved : Reserved) → Ok reserved ≡ confirm w (answer_of Flush (meaning d') w.sector) → Flushed (meaning d') (meaning d'') →
+          Runs moves meaning value start r d (Ok reserved) r' d''
+      flush_goes reserved e flushed =
+          let told = confirmed_well w _ reserved e in
+          rw (told.1, claims, starts) (runs value refl refl (Ok tt) d'' (record { answers = told.0; does = flushed; goes = goes }))
 
-  pub flush_stops :
-      (u : Unconfirmed) (x : Interrupted) → Err u ≡ confirm w (answer_of Flush (meaning d') w.sector) → meaning d'' ≡ meaning d' →
-      x ≡ record { work = Reservation u.written.claim.series; fault = u.fault } →
-      Runs moves meaning value start r d (Err (Stopped x)) r' d''
-  flush_stops u x e same given =
-      let told = confirmed_ill w _ u e in
-      rw (given, told.1, claims) (runs value refl refl (Err u.fault) d'' (record { answers = told.0; does = same; goes = goes }))
+      pub flush_stops :
+          (u : Unconfirmed) (x : Interrupted) → Err u ≡ confirm w (answer_of Flush (meaning d') w.sector) → meaning d'' ≡ meaning d' →
+          x ≡ record { work = Reservation u.written.claim.series; fault = u.fault } →
+          Runs moves meaning value start r d (Err (Stopped x)) r' d''
+      flush_stops u x e same given =
+          let told = confirmed_ill w _ u e in
+          rw (given, told.1, claims) (runs value refl refl (Err u.fault) d'' (record { answers = told.0; does = same; goes = goes }))
 
 -- a reservation that is not refused, and one that is
 module _ {D : Type 0} (moves : Moves D) (meaning : D → Meaning) (value : Reserved) (r : Ring) (d : D) where

@@ -24,36 +24,38 @@ cut_at_rest m left supply kept cut =
     (λ k. cut.settled k (ap (λ (xs : List (List ℕ)). at xs k) kept))
 
 -- a write that is not flushed when the current fails
-module _ (m m' left : Meaning) (g supply : ℕ) (bytes : List ℕ) (kept : m.kept ≡ m.reading) (lies : g < length m.reading) (wrote : Wrote m g bytes m') (cut : Cut m' supply left) where
-  was : (k : ℕ) → at m.kept k ≡ at m.reading k
-  was k = ap (λ (xs : List (List ℕ)). at xs k) kept
+module _ (m m' left : Meaning) (g supply : ℕ) (bytes : List ℕ) (kept : m.kept ≡ m.reading) where
+  module _ (lies : g < length m.reading) (wrote : Wrote m g bytes m') (cut : Cut m' supply left) where
+    was : (k : ℕ) → at m.kept k ≡ at m.reading k
+    was k = ap (λ (xs : List (List ℕ)). at xs k) kept
 
-  other_stays : (k : ℕ) → k ≢ g → at left.reading k ≡ at m.reading k
-  other_stays k ne = grind (arith, common_steps)
+    other_stays : (k : ℕ) → k ≢ g → at left.reading k ≡ at m.reading k
+    other_stays k ne = grind (arith, common_steps)
 
-  -- the gap holds its old content, the new one, or is blank
-  gap-holds : (at left.reading g ≡ at m.reading g) ⊎ ((at left.reading g ≡ bytes) ⊎ (sound (at left.reading g) ≡ false))
-  gap-holds = grind (arith, common_steps)
+    -- the gap holds its old content, the new one, or is blank
+    gap-holds : (at left.reading g ≡ at m.reading g) ⊎ ((at left.reading g ≡ bytes) ⊎ (sound (at left.reading g) ≡ false))
+    gap-holds = grind (arith, common_steps)
 
-  only_gap : left.reading ≡ set m.reading g (at left.reading g)
-  only_gap =
-      let n = length-set m.reading g (at left.reading g) in
-      let w = ap length wrote.reads ∙ length-set m.reading g bytes in
-      same_sectors left.reading (set m.reading g (at left.reading g)) (cut.reads_count ∙ w ∙ sym n)
-      (λ k.
-      ⊎_elim
-      (λ same.
-      subst (λ (j : ℕ). at left.reading j ≡ at (set m.reading g (at left.reading g)) j) (sym same)
-      (sym (get_or-set_same m.reading g (at left.reading g) [] lies)))
-      (λ ne. other_stays k ne ∙ sym (get_or-set_other m.reading g k (at left.reading g) [] ne))
-      (cases_eq k g))
+    only_gap : left.reading ≡ set m.reading g (at left.reading g)
+    only_gap =
+        let n = length-set m.reading g (at left.reading g) in
+        let w = ap length wrote.reads ∙ length-set m.reading g bytes in
+        same_sectors left.reading (set m.reading g (at left.reading g)) (cut.reads_count ∙ w ∙ sym n)
+        (λ k.
+        ⊎_elim
+        (λ same.
+        subst (λ (j : ℕ). at left.reading j ≡ at (set m.reading g (at left.reading g)) j) (sym same)
+        (sym (get_or-set_same m.reading g (at left.reading g) [] lies)))
+        (λ ne. other_stays k ne ∙ sym (get_or-set_other m.reading g k (at left.reading g) [] ne))
+        (cases_eq k g))
 
-  pub cut_unflushed : (left.reading ≡ m.reading) ⊎ ((left.reading ≡ set m.reading g bytes) ⊎ ((x : List ℕ) × (sound x ≡ false) × (left.reading ≡ set m.reading g x)))
-  cut_unflushed =
-      ⊎_elim
-      (λ e. inl (only_gap ∙ ap (set m.reading g) e ∙ set-get_or m.reading g []))
-      (⊎_elim (λ e. inr (inl (only_gap ∙ ap (set m.reading g) e))) (λ e. inr (inr (at left.reading g, e, only_gap))))
-      gap-holds
+    pub cut_unflushed :
+        (left.reading ≡ m.reading) ⊎ ((left.reading ≡ set m.reading g bytes) ⊎ ((x : List ℕ) × (sound x ≡ false) × (left.reading ≡ set m.reading g x)))
+    cut_unflushed =
+        ⊎_elim
+        (λ e. inl (only_gap ∙ ap (set m.reading g) e ∙ set-get_or m.reading g []))
+        (⊎_elim (λ e. inr (inl (only_gap ∙ ap (set m.reading g) e))) (λ e. inr (inr (at left.reading g, e, only_gap))))
+        gap-holds
 
 -- a sector that is not sound is blank
 pub blank_from : (f : Format) (k : ℕ) (x : List ℕ) → sound x ≡ false → content f k x ≡ Blank

@@ -53,76 +53,73 @@ alike_after (settle i ∷ ops) m n after alike went =
     (rest.0, (other, flushed, rest.1), rest.2)
 
 -- a reservation that was answered
-module _
-    (r : Ring) (m : Meaning) (s : ℕ) (end : Rank) (may : MayReserve r m s end) (reserved : Reserved) (r' : Ring) (m' : Meaning)
-    (ended : Ended r.format s end m (Ok reserved) r' m') where
-  abbrev f : Format
-  f = r.format
+module _ (r : Ring) (m : Meaning) (s : ℕ) (end : Rank) (may : MayReserve r m s end) (reserved : Reserved) where
+  module _ (r' : Ring) (m' : Meaning) (ended : Ended r.format s end m (Ok reserved) r' m') where
+    abbrev f : Format
+    f = r.format
 
-  abbrev rested : Meaning
-  rested = record { reading = m.reading; kept = m.reading; supply = m.supply; beyond = m.beyond }
+    abbrev rested : Meaning
+    rested = record { reading = m.reading; kept = m.reading; supply = m.supply; beyond = m.beyond }
 
-  lawful : LawfulReservation f s end.0 rested
-  lawful =
-      record {
-        recovers = agrees_recovers r m may.agrees;
-        kept = refl;
-        series = may.series;
-        some = may.some;
-        ends = may.ends;
-        numbers = may.numbers;
-      }
+    lawful : LawfulReservation f s end.0 rested
+    lawful =
+        record {
+          recovers = agrees_recovers r m may.agrees;
+          kept = refl;
+          series = may.series;
+          some = may.some;
+          ends = may.ends;
+          numbers = may.numbers;
+        }
 
-  enough : 2 * length (plan f 7 s end.0 m.reading) ≤ m.supply
-  enough =
-      ⊎_elim
-      (λ l.
-      let stopped = (operations_counted f (reservation f m.reading s end) (plan f 7 s end.0 m.reading) m.supply).2 l in
-      absurd
-      (let z : ◌≡◌ {A = Result Reserved RingFault} (Ok reserved) (Err stopped.0) = sym ended.answers ∙ stopped.1 in
-      let y : ◌≡◌ {A = ℕ} 0 1 = cc in
-      omega arith))
-      (λ l. l)
-      (cases_lt m.supply (2 * length (plan f 7 s end.0 m.reading)))
+    enough : 2 * length (plan f 7 s end.0 m.reading) ≤ m.supply
+    enough =
+        ⊎_elim
+        (λ l.
+        let stopped = (operations_counted f (reservation f m.reading s end) (plan f 7 s end.0 m.reading) m.supply).2 l in
+        absurd (let z : ◌≡◌ {A = Result Reserved RingFault} (Ok reserved) (Err stopped.0) = sym ended.answers ∙ stopped.1 in
+        let y : ◌≡◌ {A = ℕ} 0 1 = cc in omega arith))
+        (λ l. l)
+        (cases_lt m.supply (2 * length (plan f 7 s end.0 m.reading)))
 
-  whole : ReservedUpTo f s end.0 m.reading m'.reading
-  whole =
-      let alike : Alike m rested = record { reading = refl; supply = refl; beyond = refl } in
-      let goes = alike_after (performed f (plan f 7 s end.0 m.reading) m.supply) m rested m' alike ended.goes in
-      subst (ReservedUpTo f s end.0 m.reading) goes.2 (reserved_whole f s end.0 rested goes.0 lawful enough goes.1).0
+    whole : ReservedUpTo f s end.0 m.reading m'.reading
+    whole =
+        let goes = alike_after (performed f (plan f 7 s end.0 m.reading) m.supply) m rested m'
+        (record { reading = refl; supply = refl; beyond = refl }) ended.goes in
+        subst (ReservedUpTo f s end.0 m.reading) goes.2 (reserved_whole f s end.0 rested goes.0 lawful enough goes.1).0
 
-  knows_before : (t : ℕ) → t < 8 → (known_end r.known t).0 ≡ end_of f m.reading t
-  knows_before t l = ap (λ (k : Known). (known_end k t).0) may.agrees.knows ∙ known_end_is f m.reading t l
+    knows_before : (t : ℕ) → t < 8 → (known_end r.known t).0 ≡ end_of f m.reading t
+    knows_before t l = ap (λ (k : Known). (known_end k t).0) may.agrees.knows ∙ known_end_is f m.reading t l
 
-  knows_after : (t : ℕ) → t < 8 → (known_end r'.known t).0 ≡ end_of f m'.reading t
-  knows_after t l =
-      ap (λ (k : Known). (known_end k t).0) ended.agrees.knows
-      ∙ ap (λ (x : Format). (known_end (known x m'.reading) t).0) ended.format
-      ∙ known_end_is f m'.reading t l
+    knows_after : (t : ℕ) → t < 8 → (known_end r'.known t).0 ≡ end_of f m'.reading t
+    knows_after t l =
+        ap (λ (k : Known). (known_end k t).0) ended.agrees.knows
+        ∙ ap (λ (x : Format). (known_end (known x m'.reading) t).0) ended.format
+        ∙ known_end_is f m'.reading t l
 
-  abbrev none : Rank
-  none = record { 0 = 0 }
+    abbrev none : Rank
+    none = record { 0 = 0 }
 
-  abbrev rank : ℕ → Rank
-  rank n = record { 0 = n }
+    abbrev rank : ℕ → Rank
+    rank n = record { 0 = n }
 
-  end_at : (t : ℕ) → t < 8 → get_or (set (known_ends r.known) s end) t none ≡ known_end r'.known t
-  end_at t l =
-      let before = length-map-range_with_len (known_end r.known) 0 8 in
-      ⊎_elim
-      (λ same.
-      subst (λ (x : ℕ). get_or (set (known_ends r.known) s end) x none ≡ known_end r'.known x) (sym same)
-      (get_or-set_same (known_ends r.known) s end none (omega (arith, may.series))
-      ∙ sym (ap rank (knows_after s may.series ∙ whole.own))))
-      (λ ne.
-      get_or-set_other (known_ends r.known) s t end none ne
-      ∙ get_or-map-range_with_len (known_end r.known) 0 8 t t none l (omega arith)
-      ∙ ap rank (knows_before t l ∙ sym (whole.others t ne) ∙ sym (knows_after t l)))
-      (cases_eq t s)
+    end_at : (t : ℕ) → t < 8 → get_or (set (known_ends r.known) s end) t none ≡ known_end r'.known t
+    end_at t l =
+        let before = length-map-range_with_len (known_end r.known) 0 8 in
+        ⊎_elim
+        (λ same.
+        subst (λ (x : ℕ). get_or (set (known_ends r.known) s end) x none ≡ known_end r'.known x) (sym same)
+        (get_or-set_same (known_ends r.known) s end none (omega (arith, may.series))
+        ∙ sym (ap rank (knows_after s may.series ∙ whole.own))))
+        (λ ne.
+        get_or-set_other (known_ends r.known) s t end none ne
+        ∙ get_or-map-range_with_len (known_end r.known) 0 8 t t none l (omega arith)
+        ∙ ap rank (knows_before t l ∙ sym (whole.others t ne) ∙ sym (knows_after t l)))
+        (cases_eq t s)
 
-  pub own_end_alone : known_ends r'.known ≡ set (known_ends r.known) s end
-  own_end_alone =
-      sym
-      (fill_by_all (known_end r'.known) (set (known_ends r.known) s end) 8 none
-      (length-set (known_ends r.known) s end ∙ length-map-range_with_len (known_end r.known) 0 8)
-      end_at)
+    pub own_end_alone : known_ends r'.known ≡ set (known_ends r.known) s end
+    own_end_alone =
+        sym
+        (fill_by_all (known_end r'.known) (set (known_ends r.known) s end) 8 none
+        (length-set (known_ends r.known) s end ∙ length-map-range_with_len (known_end r.known) 0 8)
+        end_at)

@@ -68,7 +68,9 @@ module _ (f : Format) (reading : List (List ℕ)) (sized : Sized f reading) (s e
 
 -- by what is known, the code finds what the rule carries: the record after the gap is older than the search
 module _ (f : Format) (reading : List (List ℕ)) (sized : Sized f reading) (s start : ℕ) (near : top f reading ≤ start + 7) where
-  finds : (c : Content) → content f (beyond f reading) (at reading (beyond f reading)) ≡ c → carry_of (known f reading) s start c ≡ to_carry f reading s (record_in c)
+  finds :
+      (c : Content) → content f (beyond f reading) (at reading (beyond f reading)) ≡ c →
+      carry_of (known f reading) s start c ≡ to_carry f reading s (record_in c)
   finds Blank e = refl
   finds Foreign e = refl
   finds (Holds r) e =

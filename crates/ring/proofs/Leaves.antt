@@ -51,7 +51,8 @@ module _ (f : Format) (reading : List (List ℕ)) (recovers : Recovers f reading
   pub left_unflushed :
       (m m' left : Meaning) (supply : ℕ) → m.reading ≡ reading → m.kept ≡ m.reading →
       Wrote m (gap f reading) (encoded f.tag (next f reading s end)) m' → Cut m' supply left →
-      (left.reading ≡ reading) ⊎ ((left.reading ≡ written) ⊎ (Recovers f left.reading × (top f left.reading ≡ top f reading) × ((t : ℕ) → end_of f left.reading t ≡ end_of f reading t)))
+      (left.reading ≡ reading) ⊎ ((left.reading ≡ written)
+      ⊎ (Recovers f left.reading × (top f left.reading ≡ top f reading) × ((t : ℕ) → end_of f left.reading t ≡ end_of f reading t)))
   left_unflushed m m' left supply reads kept wrote cut =
       ⊎_elim
       (λ e. inl (e ∙ reads))
@@ -85,14 +86,19 @@ module _ (f : Format) (reading : List (List ℕ)) (recovers : Recovers f reading
       }
 
 -- a carried record keeps its series' end
-carried-live : (f : Format) (reading : List (List ℕ)) (recovers : Recovers f reading) (s : ℕ) (q : Record) → next_carry f reading s ≡ Some q → live f reading q.series ≡ live_of q
+carried-live :
+    (f : Format) (reading : List (List ℕ)) (recovers : Recovers f reading) (s : ℕ) (q : Record) →
+    next_carry f reading s ≡ Some q → live f reading q.series ≡ live_of q
 carried-live f reading recovers s q e =
     let c = carried_is f reading s q e in
     live_is f reading q.series (live_of q)
     (λ k r l h same. let up = live_above f reading q.series k r l h same in omega (arith, c.2))
     (inr (q, record { at_sector = beyond f reading; within = beyond_lies f reading recovers.sized; holds = c.0 }, refl, refl))
 
-carry_ends : (f : Format) (reading : List (List ℕ)) (recovers : Recovers f reading) (s : ℕ) (q : Record) → next_carry f reading s ≡ Some q → Writable f reading q.series q.end.0 → (t : ℕ) → end_of f (with_record f reading (next f reading q.series q.end.0)) t ≡ end_of f reading t
+carry_ends :
+    (f : Format) (reading : List (List ℕ)) (recovers : Recovers f reading) (s : ℕ) (q : Record) →
+    next_carry f reading s ≡ Some q → Writable f reading q.series q.end.0 → (t : ℕ) →
+    end_of f (with_record f reading (next f reading q.series q.end.0)) t ≡ end_of f reading t
 carry_ends f reading recovers s q e w t =
     ⊎_elim (λ same. same)
     (λ own.
@@ -283,7 +289,9 @@ module _ (f : Format) (s end : ℕ) (first : Meaning) (lawful : LawfulReservatio
       }
 
   -- from the start
-  reached : (after : Meaning) → Went first (performed f (plan f 7 s end first.reading) first.supply) after → Reaches first after (plan f 7 s end first.reading) first.supply
+  reached :
+      (after : Meaning) → Went first (performed f (plan f 7 s end first.reading) first.supply) after →
+      Reaches first after (plan f 7 s end first.reading) first.supply
   reached after went =
       reaches 7 first after _ first.supply
       (record { path = path_begins f s first.reading lawful.recovers lawful.series; kept = lawful.kept; same = λ t. refl })

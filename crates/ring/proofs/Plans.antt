@@ -1,16 +1,29 @@
 -- The plan of a reservation is what the rule asks for: after each carry fewer are left, and seven at most.
-use Rattle.std.proofs.Common.{◌≡◌, ℕ, zero, suc, ◌+◌, ◌<◌, ◌≤◌, List, length, set, Some, None, Option, sym, refl, ap, subst, arith}
+use Rattle.std.proofs.Common.{◌≡◌, ℕ, zero, suc, ◌+◌, ◌<◌, ◌≤◌, List, [], ◌∷◌, length, set, Some, None, Option, sym, refl, ap, subst, arith}
 use Rattle.std.proofs.lemmas.List.FromFn.{length-map-range_with_len}
 use Rattle.record.specs.declared.sector.TheConstants.{LAST_SEQUENCE}
 use Rattle.record.specs.declared.sector.Format.{Format}
 use Rattle.record.specs.declared.sector.Record.{Record}
 use Rattle.ring.specs.Left.{Recovers, SevenCarries, Follows, stops, carries}
-use Rattle.ring.specs.Ring.{top, live, live_of, next_carry, next, with_record, known, plan}
+use Rattle.ring.specs.Ring.{top, live, live_of, next_carry, next, with_record, known, carry_step, reservation_step, first_then, plan}
 use Rattle.ring.specs.declared.known.Known.{Known}
 use Rattle.ring.proofs.Carries.{carry_clear, carry_fewer, carry_writable}
 use Rattle.ring.proofs.Knows.{left, known_written, left_seven, native_written}
-use Rattle.ring.proofs.Searches.{plan-ends, plan_carries}
 use Rattle.ring.proofs.Writes.{Clear, Writable, top-written, free_written, sized_written}
+
+-- the plan, by whether something is to be carried
+pub plan-ends :
+    (f : Format) (n s end : ℕ) (reading : List (List ℕ)) → next_carry f reading s ≡ None →
+    plan f n s end reading ≡ reservation_step f reading s end ∷ []
+unfolding plan
+plan-ends f n s end reading e = grind arith
+
+pub plan_carries :
+    (f : Format) (n s end : ℕ) (reading : List (List ℕ)) (r : Record) → next_carry f reading s ≡ Some r →
+    plan f (suc n) s end reading
+    ≡ carry_step f reading r ∷ plan f n s end (with_record f reading (next f reading r.series r.end.0))
+unfolding plan
+plan_carries f n s end reading r e = ap (first_then f reading s end (λ q. plan f n s end (with_record f reading q))) e
 
 -- one record written: the sectors recover
 pub recovers_written :

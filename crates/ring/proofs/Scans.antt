@@ -95,7 +95,9 @@ module _ (f : Format) (reading : List (List ℕ)) (n : ℕ) where
       same_known _ _ _ _ t (sym l)
 
   -- none foreign so far
-  pub foreign_none : (c : Content) → content f n (at reading n) ≡ c → is_foreign c ≡ false → foreign_below f reading n ≡ None → foreign_below f reading (suc n) ≡ None
+  pub foreign_none :
+      (c : Content) → content f n (at reading n) ≡ c → is_foreign c ≡ false → foreign_below f reading n ≡ None →
+      foreign_below f reading (suc n) ≡ None
   unfolding foreign_below
   foreign_none c e native none_yet = grind arith
 
@@ -112,13 +114,17 @@ foreign_stays f reading i n (suc k) e =
     let m : n + suc k ≡ suc (n + k) = omega arith in
     ap (foreign_below f reading) m ∙ rw h refl
 
-pub foreign_lowest : (f : Format) (reading : List (List ℕ)) (n all : ℕ) → n < all → content f n (at reading n) ≡ Foreign → foreign_below f reading n ≡ None → foreign_below f reading all ≡ Some n
+pub foreign_lowest :
+    (f : Format) (reading : List (List ℕ)) (n all : ℕ) → n < all → content f n (at reading n) ≡ Foreign →
+    foreign_below f reading n ≡ None → foreign_below f reading all ≡ Some n
 foreign_lowest f reading n all l e none_yet =
     let h = foreign_stays f reading n (suc n) (all - suc n) (foreign_here f reading n e none_yet) in
     let m : suc n + (all - suc n) ≡ all = omega arith in
     ap (foreign_below f reading) (sym m) ∙ h
 
-pub nothing_below : (f : Format) (reading : List (List ℕ)) → known_below f reading 0 ≡ record { top = record { 0 = 0 }; lives = none ∷ none ∷ none ∷ none ∷ none ∷ none ∷ none ∷ none ∷ [] }
+pub nothing_below :
+    (f : Format) (reading : List (List ℕ)) →
+    known_below f reading 0 ≡ record { top = record { 0 = 0 }; lives = none ∷ none ∷ none ∷ none ∷ none ∷ none ∷ none ∷ none ∷ [] }
 unfolding top_below live_below
 nothing_below f reading = refl
 
@@ -128,7 +134,9 @@ module _ (f : Format) (reading : List (List ℕ)) (sectors n : ℕ) (all : secto
     reads : content f n (at reading n) ≡ content f n bytes
     reads = ap (content f n) (sym (found_at reading n bytes (omega arith) read))
 
-    pub scan_stops : Foreign ≡ content f n bytes → foreign_below f reading n ≡ None → Err (Foreign' n) ≡ scan f reading (foreign_below f reading (length reading))
+    pub scan_stops :
+        Foreign ≡ content f n bytes → foreign_below f reading n ≡ None →
+        Err (Foreign' n) ≡ scan f reading (foreign_below f reading (length reading))
     scan_stops is none_yet =
         sym (ap (scan f reading) (foreign_lowest f reading n (length reading) (omega arith) (reads ∙ sym is) none_yet))
 
@@ -151,6 +159,8 @@ module _ (f : Format) (reading : List (List ℕ)) (sectors n : ℕ) (all : secto
           meets ∙ ap (λ (x : Known). meet x r) inv.1 ∙ sym (known_record f reading n r (reads ∙ sym is)),
         )
 
-  pub scan_ends : (k : Known) → n ≡ sectors → (foreign_below f reading n ≡ None) × (k ≡ known_below f reading n) → Ok k ≡ scan f reading (foreign_below f reading (length reading))
+  pub scan_ends :
+      (k : Known) → n ≡ sectors → (foreign_below f reading n ≡ None) × (k ≡ known_below f reading n) →
+      Ok k ≡ scan f reading (foreign_below f reading (length reading))
   unfolding top live
   scan_ends k e inv = grind arith

@@ -108,7 +108,9 @@ module _ (f : Format) (reading : List (List ℕ)) where
       (λ ne. omega (arith, (live_step s n).0, live_above_below s n k r (omega arith) e same))
       (cases_eq k n)
 
-  live_in_cases : (s n : ℕ) (x : Option Record) → slot f reading n ≡ x → (live_in s x ≡ none) ⊎ ((r : Record) × Among f reading (suc n) r × (r.series ≡ s) × (live_in s x ≡ live_of r))
+  live_in_cases :
+      (s n : ℕ) (x : Option Record) → slot f reading n ≡ x →
+      (live_in s x ≡ none) ⊎ ((r : Record) × Among f reading (suc n) r × (r.series ≡ s) × (live_in s x ≡ live_of r))
   live_in_cases s n x e = grind arith
 
   newer_cases : (a b : Live) → (newer a b ≡ a) ⊎ (newer a b ≡ b)

@@ -41,14 +41,18 @@ blank_recovers f m count tags tops w =
     }
 
 -- none foreign below
-none_foreign : (f : Format) (reading : List (List ℕ)) (n : ℕ) → ((k : ℕ) → k < n → is_foreign (content f k (at reading k)) ≡ false) → foreign_below f reading n ≡ None
+none_foreign :
+    (f : Format) (reading : List (List ℕ)) (n : ℕ) →
+    ((k : ℕ) → k < n → is_foreign (content f k (at reading k)) ≡ false) → foreign_below f reading n ≡ None
 unfolding foreign_below
 none_foreign f reading zero native = refl
 none_foreign f reading (suc n) native =
     rw (none_foreign f reading n (λ k l. native k (omega arith)), native n (omega arith)) refl
 
 -- the gap by what it holds
-none-live : (f : Format) (reading : List (List ℕ)) → Recovers f reading → (x : Option Record) → slot f reading (gap f reading) ≡ x → holds_live f reading x ≡ false
+none-live :
+    (f : Format) (reading : List (List ℕ)) → Recovers f reading → (x : Option Record) →
+    slot f reading (gap f reading) ≡ x → holds_live f reading x ≡ false
 none-live f reading recovers x e = grind arith
 
 -- sectors that recover: recovery answers the ring that knows them, and that ring agrees with the disk

@@ -1,13 +1,11 @@
 -- The writes and flushes of a reservation, as far as the supply goes.
-use Rattle.std.specs.Prelude.{◌≡◌, ℕ, zero, suc, ◌⊎◌, List, [], ◌∷◌, Ok, Err, Result}
+use Rattle.std.specs.Prelude.{◌≡◌, ℕ, zero, suc, List, [], ◌∷◌, Ok, Err, Result}
 use Rattle.record.specs.Sector.{encoded}
 use Rattle.record.specs.declared.numbers.Rank.{Rank}
 use Rattle.record.specs.declared.sector.Format.{Format}
-use Rattle.record.specs.declared.sector.Record.{Record}
-use Rattle.disk.specs.Meaning.{Meaning, Wrote, Flushed, denied, answer_of}
+use Rattle.disk.specs.Meaning.{Meaning, Wrote, Flushed, denied}
 use Rattle.disk.specs.Moves.{Moves}
 use Rattle.disk.specs.declared.fault.Cause.TheVariants.{Dark}
-use Rattle.disk.specs.declared.fault.DiskFault.{DiskFault}
 use Rattle.disk.specs.declared.fault.Operation.{Operation}
 use Rattle.disk.specs.declared.fault.Operation.TheVariants.{Write, Flush}
 use Rattle.ring.specs.Ring.{Step, known_gap, next_of, with_noted}
@@ -60,11 +58,6 @@ tried f (step ∷ steps) (suc zero) =
 tried f (step ∷ steps) (suc (suc supply)) =
     put step.sector (encoded f.tag step.entry) ∷ settle step.sector ∷ tried f steps supply
 
--- one write of them, by what it answered: its flush is tried where it succeeded
-abbrev pub write_and_flush : ℕ → List ℕ → Result (Unit {0}) DiskFault → List Op
-write_and_flush i bytes (Ok done) = put i bytes ∷ settle i ∷ []
-write_and_flush i bytes (Err fault) = put i bytes ∷ []
-
 -- how many of these operations are writes
 unfoldable pub writes_in : List Op → ℕ
 writes_in [] = 0
@@ -88,14 +81,3 @@ abbrev pub Writes : Ring → Meaning → ℕ → Rank → Ring → Meaning → T
 Writes r m s end r' m' =
     Wrote m (known_gap r) (encoded r.format.tag (next_of r s end)) m'
     × (r' ≡ with_noted r (next_of r s end))
-
--- a carry that is written and flushed
-abbrev pub Carries : Ring → Meaning → Record → Ring → Meaning → Type 0
-Carries r m q r' m' =
-    (between : Meaning) × Writes r m q.series q.end r' between × Flushed between m'
-
--- a write that was denied, or whose flush was
-abbrev pub Denied : Ring → Meaning → ℕ → Rank → DiskFault → Ring → Meaning → Type 0
-Denied r m s end fault r' m' =
-    ((answer_of Write m (known_gap r) ≡ Err fault) × (m' ≡ m) × (r' ≡ r))
-    ⊎ (Writes r m s end r' m' × (answer_of Flush m' (known_gap r) ≡ Err fault))

@@ -1,16 +1,16 @@
 // The ring over any disk.
-ghost use Rattle.std.specs.Prelude.{◌≡◌, ℕ, [], ◌∷◌, ◌+◌, ◌^◌, ◌<◌, ◌≤◌, IfOk, IfErr, Some, None, Ok, Err, MatchResult, slice_set};
-ghost use Rattle.ring.specs.Token.{empty_blocks};
+ghost use Rattle.std.specs.Prelude.{◌≡◌, ◌+◌, ◌^◌, ◌<◌, ◌≤◌, IfOk, IfErr, Some, None, Ok, Err, MatchResult, slice_set};
+ghost use Rattle.ring.specs.Token.{done, empty_blocks};
 ghost use Rattle.ring.specs.Left.{end_of, AtMostSoMany, ReservationLaws, TopsCounted};
 ghost use Rattle.ring.specs.Faults.{with_work};
-ghost use Rattle.disk.specs.Meaning.{Meaning, at, count, answer_of};
+ghost use Rattle.disk.specs.Meaning.{Meaning, count, answer_of};
 ghost use Rattle.disk.specs.declared.fault.Operation.TheVariants.{Write};
-ghost use Rattle.ring.specs.Operations.{Writes, Carries, Denied, Chain, write_and_flush};
+ghost use Rattle.ring.specs.Operations.{Writes};
 ghost use Rattle.ring.specs.Runs.{look, known_carry, Appends, RunsUnlessRefused, RunsShort, RunsClear, RunsStopped, RunsWritten};
-ghost use Rattle.ring.specs.Search.{GoesOn, Tried, MaySearch, ClearedWay, StoppedSearch, MayReserve, Begun, Ended, refusal, admit};
-ghost use Rattle.ring.specs.declared.fault.Work.TheVariants.{Carry};
+ghost use Rattle.ring.specs.Search.{Tried, Ended, refusal, admit};
+ghost use Rattle.ring.specs.declared.fault.Work.TheVariants.{Carry, Reservation};
 ghost use Rattle.record.specs.Sector.{content, encoded};
-ghost use Rattle.ring.specs.Ring.{sector_of, known_gap, next_of, reservation_step, beyond, top, scan, foreign_below, recover, known_end, known_ends, Agrees};
+ghost use Rattle.ring.specs.Ring.{sector_of, known_gap, next_of, top, scan, foreign_below, recover, known_end, known_ends, Agrees};
 
 use crate::fault::{Interrupted, RingFault, Work, during};
 use crate::known::{Claim, Known};
@@ -115,12 +115,7 @@ impl Ring {
 
     // What the sector after the gap holds.
     pub(crate) fn look<D: Disk>(&self, disk: &D) -> Result<Content, DiskFault>
-        ensures looks { result ≡ look self.now (D.meaning disk.now).reading }
-        ensures agrees { let f = self.now.format in
-            let m = D.meaning disk.now in
-            let i = beyond f m.reading in
-            Agrees self.now m → top f m.reading ≤ LAST_SEQUENCE →
-            result ≡ Ok (content f i (at m.reading i)) }
+        ensures { result ≡ look self.now (D.meaning disk.now).reading }
     {
         let sector = sector_of(self.known.top.0.saturating_add(2), self.format.sectors);
         let bytes = disk.read(sector)?;
@@ -160,18 +155,45 @@ impl Ring {
         Ok(())
     }
 
-    // Carries a live record: writes it anew into the gap, and flushes.
-    fn carry<D: Disk>(&mut self, disk: &mut D, entry: Record) -> Result<(), Interrupted>
-        ensures work { IfErr result (λ stopped. stopped.work ≡ Carry entry.series) }
+    // Writes a reservation into the gap, and notes it.
+    fn write_reservation<D: Disk>(
+        &mut self,
+        disk: &mut D,
+        gap: usize,
+        claim: Claim,
+        start: Rank,
+    ) -> Result<Written, Interrupted>
+        requires { gap ≡ known_gap self.old }
+        ensures written { IfOk result (λ w.
+            w ≡ record { claim = claim; start = start; sector = known_gap self.old }) }
+        ensures answer { let m = D.meaning disk.old in
+            let work = Reservation claim.series in
+            done result ≡ with_work work (answer_of Write m (known_gap self.old)) }
         ensures effect { let m = D.meaning disk.old in
             let after = D.meaning disk.new in
             MatchResult result
-            (λ _. Carries self.old m entry self.new after)
-            (λ x. Denied self.old m entry.series entry.end x.fault self.new after) }
-        ensures moves { let gap = known_gap self.old in
-            let bytes = encoded self.old.format.tag (next_of self.old entry.series entry.end) in
-            let answer = answer_of Write (D.meaning disk.old) gap in
-            Chain D.moves disk.old (write_and_flush gap bytes answer) disk.new }
+            (λ _. Writes self.old m claim.series claim.end self.new after)
+            (λ _. (after ≡ m) × (self.new ≡ self.old)) }
+        ensures moves { let entry = next_of self.old claim.series claim.end in
+            let bytes = encoded self.old.format.tag entry in
+            D.moves.writes disk.old (known_gap self.old) bytes disk.new }
+    {
+        let entry = self.known.next(claim);
+        match Written::write(disk, self.format.tag, entry, start, gap) {
+            Ok(written) => {
+                self.known = self.known.note(entry);
+                Ok(written)
+            }
+            Err(fault) => Err(Interrupted {
+                work: Work::Reservation(claim.series),
+                fault,
+            }),
+        }
+    }
+
+    // Carries a live record: writes it anew into the gap, and flushes.
+    fn carry<D: Disk>(&mut self, disk: &mut D, entry: Record) -> Result<(), Interrupted>
+        ensures work { IfErr result (λ stopped. stopped.work ≡ Carry entry.series) }
         ensures appends { let step = known_carry self.old entry in
             MatchResult result
             (λ _. Appends D.moves D.meaning self.old disk.old step (Ok tt) self.new disk.new)
@@ -190,18 +212,6 @@ impl Ring {
     fn clear_the_way<D: Disk>(&mut self, disk: &mut D, series: u8) -> Result<usize, RingFault>
         requires { self.old.known.top.0 + 8 ≤ LAST_SEQUENCE }
         ensures gap { IfOk result (λ gap. gap ≡ known_gap self.new) }
-        ensures search { let f = self.old.format in
-            let m = D.meaning disk.old in
-            let after = D.meaning disk.new in
-            MaySearch self.old m series → MatchResult result
-            (λ _. ClearedWay f series m self.new after)
-            (λ x. StoppedSearch f series m x self.new after) }
-        ensures moves { let f = self.old.format in
-            let reading = (D.meaning disk.new).reading in
-            let rest = λ (end : ℕ). reservation_step f reading series end ∷ [] in
-            MaySearch self.old (D.meaning disk.old) series → MatchResult result
-            (λ _. GoesOn D.moves D.meaning f series disk.old rest disk.new)
-            (λ _. (end : ℕ) → Tried D.moves D.meaning f series disk.old end disk.new) }
         ensures runs { let start = self.old.known.top.0 in
             MatchResult result
             (λ _. RunsClear D.moves D.meaning series start self.old disk.old self.new disk.new)
@@ -221,17 +231,6 @@ impl Ring {
     // Clears the way and writes the reservation, which is then to be confirmed or given up.
     fn begin<D: Disk>(&mut self, disk: &mut D, claim: Claim) -> Result<Written, RingFault>
         requires { self.old.known.top.0 + 8 ≤ LAST_SEQUENCE }
-        ensures begins { let f = self.old.format in
-            let m = D.meaning disk.old in
-            let after = D.meaning disk.new in
-            MayReserve self.old m claim.series claim.end → MatchResult result
-            (λ w. Begun f claim.series claim.end m w self.new after)
-            (λ x. Ended f claim.series claim.end m (Err x) self.new after) }
-        ensures moves { let f = self.old.format in
-            MayReserve self.old (D.meaning disk.old) claim.series claim.end → MatchResult result
-            (λ w. (after : D) → D.moves.flushes disk.new w.sector after →
-            Tried D.moves D.meaning f claim.series disk.old claim.end.0 after)
-            (λ _. Tried D.moves D.meaning f claim.series disk.old claim.end.0 disk.new) }
         ensures claims { IfOk result (λ w. w.claim ≡ claim) }
         ensures starts { IfOk result (λ w. w.start ≡ known_end self.old.known claim.series) }
         ensures runs { let start = self.old.known.top.0 in
@@ -242,8 +241,8 @@ impl Ring {
     {
         let start = self.known.end(claim.series);
         let gap = self.clear_the_way(disk, claim.series)?;
-        self.write_record(disk, gap, Work::Reservation(claim.series), claim)?;
-        Ok(Written::new(claim, start, gap))
+        let written = self.write_reservation(disk, gap, claim, start)?;
+        Ok(written)
     }
 
     // What a reservation claims, if it may be made at all.

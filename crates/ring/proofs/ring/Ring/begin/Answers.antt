@@ -1,54 +1,23 @@
 -- The current fails at the reservation's write, or its flush is left to be made.
 use Rattle.std.proofs.lemmas.Result.{err_from_is_err_and}
 use Rattle.ring.proofs.AnyRing.{write_stops, write_goes}
-use Rattle.ring.proofs.LastChains.{chain_denied, chain_written}
-use Rattle.ring.proofs.Reserves.{may_search, write_denied, work_and_fault}
 use Rattle.ring.proofs.ring.Ring.begin.Goals as goal
 
-pub returns-in_err-write_record-clause-begins : goal.returns-in_err-write_record-clause-begins
-returns-in_err-write_record-clause-begins g c may =
-    let cleared = c.in_ok-gap.ensures.search (may_search _ _ _ _ may) in
-    let p = err_from_is_err_and c.from_residual-in_err-write_record.result c.from_residual-in_err-write_record.ensures.1 in
-    rw (p.1, p.2)
-    (write_denied _ _ _ _ _ _ cleared may.series may.numbers may.some may.ends c.in_err-write_record.field-0.0 _ _
-    c.in_err-write_record.ensures.answer
-    c.in_err-write_record.ensures.effect.0
-    c.in_err-write_record.ensures.effect.1)
-
-pub returns-in_err-write_record-clause-moves : goal.returns-in_err-write_record-clause-moves
-returns-in_err-write_record-clause-moves g c may =
-    let search = may_search _ _ _ _ may in
-    let p = err_from_is_err_and c.from_residual-in_err-write_record.result c.from_residual-in_err-write_record.ensures.1 in
-    rw p.1
-    (chain_denied g.D.Disk.moves g.D.Disk.meaning _ _ c.args.claim.end c.args.disk.now _ _ (c.in_ok-gap.ensures.search search) may.numbers
-    (c.in_ok-gap.ensures.moves search) _
-    c.write_record.ensures.moves _
-    (work_and_fault _ _ _ c.in_err-write_record.ensures.answer).1)
-
-pub returns-clause-moves : goal.returns-clause-moves
-returns-clause-moves g c may after flushed =
-    let search = may_search _ _ _ _ may in
-    chain_written g.D.Disk.moves g.D.Disk.meaning _ _ c.args.claim.end c.args.disk.now _ _ (c.in_ok-gap.ensures.search search) may.numbers
-    (c.in_ok-gap.ensures.moves search) _
-    c.write_record.ensures.moves _
-    c.in_ok-write_record.ensures.effect after
-    (rw (c.new.ensures, c.in_ok-gap.ensures.gap) at flushed)
-
-pub returns-in_err-write_record-clause-runs : goal.returns-in_err-write_record-clause-runs
-returns-in_err-write_record-clause-runs g c =
-    let p = err_from_is_err_and c.from_residual-in_err-write_record.result c.from_residual-in_err-write_record.ensures.1 in
+pub returns-in_err-written-clause-runs : goal.returns-in_err-written-clause-runs
+returns-in_err-written-clause-runs g c =
+    let p = err_from_is_err_and c.from_residual-in_err-written.result c.from_residual-in_err-written.ensures.1 in
     rw (p.1, p.2)
     (write_stops g.D.Disk.moves g.D.Disk.meaning c.args.claim _ _ _ _ _ c.in_ok-gap.ensures.runs _ _
-    c.write_record.ensures.moves
-    c.in_err-write_record.field-0.0
-    c.in_err-write_record.ensures.answer
-    c.in_err-write_record.ensures.effect.0
-    c.in_err-write_record.ensures.effect.1)
+    c.write_reservation.ensures.moves
+    c.in_err-written.field-0.0
+    c.in_err-written.ensures.answer
+    c.in_err-written.ensures.effect.0
+    c.in_err-written.ensures.effect.1)
 
 pub returns-clause-runs : goal.returns-clause-runs
 returns-clause-runs g c =
-    rw (c.new.ensures, c.in_ok-gap.ensures.gap)
+    rw c.in_ok-written.ensures.written
     (write_goes g.D.Disk.moves g.D.Disk.meaning c.args.claim _ _ _ _ _ c.in_ok-gap.ensures.runs _ _
-    c.write_record.ensures.moves
-    _ c.in_ok-write_record.ensures.answer
-    c.in_ok-write_record.ensures.effect)
+    c.write_reservation.ensures.moves
+    _ c.in_ok-written.ensures.answer
+    c.in_ok-written.ensures.effect)

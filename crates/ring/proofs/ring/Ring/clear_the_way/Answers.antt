@@ -2,18 +2,11 @@
 use Rattle.std.proofs.Common.{sym, ap, arith}
 use Rattle.std.proofs.lemmas.Result.{err_from_is_err_and}
 use Rattle.ring.proofs.AnyRing.{found_to_carry, turn_unread, turn_carries, turn_stopped}
-use Rattle.ring.proofs.Chains.{chain_begins, chain_goes_on, chain_stops, chain_ends}
-use Rattle.ring.proofs.Searches.{search_begins}
-use Rattle.ring.proofs.Turns.{noted_since, carries_from, carries_less, turn_finds, turn_ends, turn_goes_on, turn_stops}
+use Rattle.ring.proofs.Turns.{noted_since, carries_from, carries_less}
 use Rattle.ring.proofs.ring.Ring.clear_the_way.Goals as goal
 
 pub loop-content-init : goal.loop-content-init
-loop-content-init g c = (
-  omega arith,
-  λ may. search_begins _ _ _ may,
-  λ may. chain_begins g.D.Disk.moves g.D.Disk.meaning c.args.self.now.format c.args.series c.args.disk.now,
-  λ value same answer r' after runs. runs,
-)
+loop-content-init g c = (omega arith, λ value same answer r' after runs. runs)
 
 pub loop-content-smaller : goal.loop-content-smaller
 loop-content-smaller g c =
@@ -23,35 +16,17 @@ loop-content-smaller g c =
     (omega (arith, c.requires))
     c.loop-content.invariant.0
     (carries_from _ _ _ _ _ (sym c.in-Some.ensures.value))
-    (ap (λ r. r.known) c.in_ok-carry-in-Some.ensures.effect.1.1)
+    (ap (λ r. r.known) c.in_ok-carry-in-Some.ensures.appends.3)
 
--- the code carried what the rule asks for
 pub loop-content-preserved : goal.loop-content-preserved
 loop-content-preserved g c = (
   noted_since c.loop-content.self.known c.carry.new.self.known c.in-Some.entry.series c.in-Some.entry.end
       c.args.self.now.known.top.0
       (omega (arith, c.requires))
       c.loop-content.invariant.0
-      (ap (λ r. r.known) c.in_ok-carry-in-Some.ensures.effect.1.1),
-  λ may.
-      let search = c.loop-content.invariant.1 may in
-      let finds = turn_finds _ _ _ _ _ search may.numbers _ _ _ (ap (λ k. k.top.0) may.agrees.knows) c.in_ok-content.ensures.agrees c.in-Some.ensures.value in
-      turn_goes_on _ _ _ _ _ search may.numbers c.in-Some.entry finds _
-      c.in_ok-carry-in-Some.ensures.effect.0
-      _
-      c.in_ok-carry-in-Some.ensures.effect.1
-      c.in_ok-carry-in-Some.ensures.effect.2,
-  λ may.
-      let search = c.loop-content.invariant.1 may in
-      let finds = turn_finds _ _ _ _ _ search may.numbers _ _ _ (ap (λ k. k.top.0) may.agrees.knows) c.in_ok-content.ensures.agrees c.in-Some.ensures.value in
-      chain_goes_on g.D.Disk.moves g.D.Disk.meaning _ _ c.args.disk.now _ _ search may.numbers (c.loop-content.invariant.2 may)
-      c.in-Some.entry finds _
-      c.carry.ensures.moves
-      _ _
-      c.in_ok-carry-in-Some.ensures.effect.1
-      c.in_ok-carry-in-Some.ensures.effect.2,
-  turn_carries g.D.Disk.moves g.D.Disk.meaning _ _ _ _ _ _ c.loop-content.invariant.3 c.in-Some.entry
-      (found_to_carry _ _ _ _ _ _ c.in_ok-content.ensures.looks c.in-Some.ensures.value)
+      (ap (λ r. r.known) c.in_ok-carry-in-Some.ensures.appends.3),
+  turn_carries g.D.Disk.moves g.D.Disk.meaning _ _ _ _ _ _ c.loop-content.invariant.1 c.in-Some.entry
+      (found_to_carry _ _ _ _ _ _ c.in_ok-content.ensures c.in-Some.ensures.value)
       _ _
       c.in_ok-carry-in-Some.ensures.appends,
 )
@@ -61,29 +36,10 @@ returns-in_err-carry-in-Some g c =
     let p = err_from_is_err_and c.from_residual-in_err-carry-in-Some.result c.from_residual-in_err-carry-in-Some.ensures.1 in
     record {
       gap = rw p.1 tt;
-      search = λ may.
-          let search = c.loop-content.invariant.1 may in
-          let finds =
-          turn_finds _ _ _ _ _ search may.numbers _ _ _ (ap (λ k. k.top.0) may.agrees.knows) c.in_ok-content.ensures.agrees c.in-Some.ensures.value in
-          rw (p.1, p.2)
-          (turn_stops _ _ _ _ _ search may.numbers c.in-Some.entry finds
-          c.in_err-carry-in-Some.field-0.0 _ _
-          c.in_err-carry-in-Some.ensures.work
-          c.in_err-carry-in-Some.ensures.effect);
-      moves = λ may.
-          let search = c.loop-content.invariant.1 may in
-          let finds =
-          turn_finds _ _ _ _ _ search may.numbers _ _ _ (ap (λ k. k.top.0) may.agrees.knows) c.in_ok-content.ensures.agrees c.in-Some.ensures.value in
-          rw p.1
-          (chain_stops g.D.Disk.moves g.D.Disk.meaning _ _ c.args.disk.now _ _ search may.numbers (c.loop-content.invariant.2 may)
-          c.in-Some.entry finds _
-          c.carry.ensures.moves
-          _ c.in_err-carry-in-Some.field-0.0.fault
-          c.in_err-carry-in-Some.ensures.effect);
       runs =
           rw (p.1, p.2)
-          (turn_stopped g.D.Disk.moves g.D.Disk.meaning _ _ _ _ _ _ c.loop-content.invariant.3 c.in-Some.entry
-          (found_to_carry _ _ _ _ _ _ c.in_ok-content.ensures.looks c.in-Some.ensures.value)
+          (turn_stopped g.D.Disk.moves g.D.Disk.meaning _ _ _ _ _ _ c.loop-content.invariant.1 c.in-Some.entry
+          (found_to_carry _ _ _ _ _ _ c.in_ok-content.ensures c.in-Some.ensures.value)
           _ _
           c.in_err-carry-in-Some.field-0.0
           c.in_err-carry-in-Some.ensures.work
@@ -94,20 +50,10 @@ pub returns : goal.returns
 returns g c =
     record {
       gap = c.gap-gap.ensures;
-      search = λ may.
-          let search = c.loop-content.invariant.1 may in
-          let finds =
-          turn_finds _ _ _ _ _ search may.numbers _ _ _ (ap (λ k. k.top.0) may.agrees.knows) c.in_ok-content.ensures.agrees c.in-None.ensures.value in
-          turn_ends _ _ _ _ _ search may.numbers finds;
-      moves = λ may.
-          let search = c.loop-content.invariant.1 may in
-          let finds =
-          turn_finds _ _ _ _ _ search may.numbers _ _ _ (ap (λ k. k.top.0) may.agrees.knows) c.in_ok-content.ensures.agrees c.in-None.ensures.value in
-          chain_ends g.D.Disk.moves g.D.Disk.meaning _ _ c.args.disk.now _ _ search may.numbers (c.loop-content.invariant.2 may) finds;
       runs =
           record {
-            clear = found_to_carry _ _ _ _ _ _ c.in_ok-content.ensures.looks c.in-None.ensures.value;
-            on = c.loop-content.invariant.3;
+            clear = found_to_carry _ _ _ _ _ _ c.in_ok-content.ensures c.in-None.ensures.value;
+            on = c.loop-content.invariant.1;
           };
     }
 
@@ -115,4 +61,4 @@ pub returns-in_err-content-clause-runs : goal.returns-in_err-content-clause-runs
 returns-in_err-content-clause-runs g c =
     let p = err_from_is_err_and c.from_residual.result c.from_residual.ensures.1 in
     rw (p.1, p.2)
-    (turn_unread g.D.Disk.moves g.D.Disk.meaning _ _ _ _ _ _ c.loop-content.invariant.3 _ c.in_err-content.ensures.looks)
+    (turn_unread g.D.Disk.moves g.D.Disk.meaning _ _ _ _ _ _ c.loop-content.invariant.1 _ c.in_err-content.ensures)

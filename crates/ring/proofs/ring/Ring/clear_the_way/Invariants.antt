@@ -1,20 +1,12 @@
--- The search goes on from where it began, and fewer live records are left to carry with each turn.
+-- The search has come from where it began, and fewer live records are left to carry with each turn.
 use Rattle.std.proofs.Common.{◌≤◌}
 use Rattle.ring.specs.Runs.{RunsOn}
-use Rattle.ring.specs.Search.{MaySearch, GoesOn}
 use Rattle.ring.proofs.Knows.{left}
-use Rattle.ring.proofs.Searches.{Searching}
-use Rattle.ring.proofs.Chains.{steps_left}
 use Rattle.ring.proofs.ring.Ring.clear_the_way.Given as goal
 
 abbrev pub invariant-loop-content : goal.invariant-loop-content
 invariant-loop-content g l =
     (l.start.0 ≤ l.self.known.top.0)
-    × (MaySearch l.initial.self (g.D.Disk.meaning l.initial.disk) l.series →
-    Searching l.initial.self.format l.series (g.D.Disk.meaning l.initial.disk) l.self (g.D.Disk.meaning l.disk))
-    × (MaySearch l.initial.self (g.D.Disk.meaning l.initial.disk) l.series →
-    GoesOn g.D.Disk.moves g.D.Disk.meaning l.initial.self.format l.series l.initial.disk
-    (steps_left l.initial.self.format l.series (g.D.Disk.meaning l.initial.disk) (g.D.Disk.meaning l.disk)) l.disk)
     × RunsOn g.D.Disk.moves g.D.Disk.meaning l.series l.start.0 l.initial.self l.initial.disk l.self l.disk
 
 abbrev pub decreases-loop-content : goal.decreases-loop-content
