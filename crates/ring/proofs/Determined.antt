@@ -5,7 +5,8 @@ use Rattle.disk.specs.Moves.{Moves}
 use Rattle.ring.specs.Operations.{Op, Move, Chain}
 
 -- as long as the disk keeps what each operation keeps
-module _ {D X : Type 0} (moves : Moves D) (Keeps : D → Type 0) (seen : D → X) (after : X → Op → X) (each : (d d' : D) (op : Op) → Keeps d → Move moves d op d' → Keeps d' × (seen d' ≡ after (seen d) op)) where
+module _ {D X : Type 0} (moves : Moves D) (Keeps : D → Type 0) (seen : D → X) (after : X → Op → X)
+    (each : (d d' : D) (op : Op) → Keeps d → Move moves d op d' → Keeps d' × (seen d' ≡ after (seen d) op)) where
   pub determined :
       (d d' : D) (ops : List Op) → Keeps d → Chain moves d ops d' → Keeps d' × (seen d' ≡ fold after (seen d) ops)
   determined d d' [] keeps same = (subst Keeps (sym same) keeps, ap seen same)
