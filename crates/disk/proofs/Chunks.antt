@@ -1,5 +1,6 @@
 -- A flat memory and its sectors: how many there are, what each holds, and what a store changes.
-use Rattle.std.proofs.Common.{◌≡◌, ℕ, zero, suc, ◌+◌, ◌-◌, ◌*◌, ◌/◌, ◌<◌, ◌≤◌, true, List, [], ◌++◌, length, get_or, take, drop, set, sym, refl, ap, ◌∙◌, append_assoc, arith, take-add}
+use Rattle.std.proofs.Common.{◌≡◌, ℕ, zero, suc, ◌+◌, ◌-◌, ◌*◌, ◌/◌, ◌<◌, ◌≤◌, true, List, [], ◌++◌, length, get_or, take, drop, set}
+use Rattle.std.proofs.Common.{sym, refl, ap, ◌∙◌, append_assoc, arith, take-add}
 use borrow.Rule.Slice.PartMut.{put_mid}
 use Rattle.std.proofs.lemmas.List.{length-append, length-take, length-drop, drop-drop, take_at, drop_at, drop_all, take_rest, append-nil}
 use Rattle.std.proofs.lemmas.Bool.Decides.{nat_tests}
@@ -73,7 +74,9 @@ module _ (xs bytes : List ℕ) (i : ℕ) (h : i < length xs / 32) (b : length by
       let n : ℕ = k - (32 * i + 32) in
       ap (λ (j : ℕ). drop j (stored xs i bytes)) (omega arith)
       ∙ sym (drop-drop n (32 * i + 32) (stored xs i bytes))
-      ∙ ap (drop n) (ap (drop (32 * i + 32)) (sym (append_assoc (take (32 * i) xs) bytes (drop (32 * i + 32) xs))) ∙ drop_at (take (32 * i) xs ++ bytes) (drop (32 * i + 32) xs) (32 * i + 32) front)
+      ∙ ap (drop n)
+      (ap (drop (32 * i + 32)) (sym (append_assoc (take (32 * i) xs) bytes (drop (32 * i + 32) xs)))
+      ∙ drop_at (take (32 * i) xs ++ bytes) (drop (32 * i + 32) xs) (32 * i + 32) front)
       ∙ drop-drop n (32 * i + 32) xs
       ∙ ap (λ (j : ℕ). drop j xs) (omega arith)
 

@@ -1,5 +1,5 @@
 -- What the two devices mean, and what a cut leaves.
-use Rattle.std.specs.Prelude.{◌≡◌, ℕ, ◌-◌, ◌%◌, Bool, cond, not, ◌&&◌, List, ◌++◌, length, take, drop, Some, None, Option, nat_lt, slice_set}
+use Rattle.std.specs.Prelude.{◌≡◌, ℕ, ◌-◌, ◌%◌, Bool, if◌then◌else◌, not, ◌&&◌, List, ◌++◌, length, take, drop, Some, None, Option, nat_lt, slice_set}
 use Rattle.std.specs.Str.{bytes_eq}
 use Rattle.record.specs.Sector.{sound}
 use Rattle.disk.specs.Holding.{Holding}
@@ -19,6 +19,11 @@ memory_disk before d =
       supply = d.supply;
       beyond = spare d.sectors.memory.now;
     }
+
+-- a disk over this memory with this supply, and no write held back
+abbrev pub MadeOver : {H : Type 0} → Holding H → List ℕ → ℕ → MemoryDisk H → Type 0
+MadeOver w memory supply d =
+    (d.sectors.memory.now ≡ memory) × (d.supply ≡ supply) × (d.held ≡ w.nothing)
 
 -- all that there is to a disk over memory: its sectors and the bytes past them, what it holds back, and its supply
 pub record Stands (H : Type 0) : Type 0 where
@@ -43,24 +48,26 @@ succeeds x i = nat_lt i (length x.reading) && nat_lt 0 x.supply
 -- as it stands after a write, a flush and a cut: a denied one changes nothing
 abbrev pub after_write : {H : Type 0} → Holding H → Stands H → ℕ → List ℕ → Stands H
 after_write w x i bytes =
-    cond (succeeds x i)
-    (record {
+    if succeeds x i then
+    record {
       reading = slice_set x.reading i bytes;
       beyond = x.beyond;
       held = w.with_write x.held i (at x.reading i);
       supply = x.supply - 1;
-    })
-    x
+    }
+    else x
 
 abbrev pub after_flush : {H : Type 0} → Holding H → Stands H → ℕ → Stands H
 after_flush w x i =
-    cond (succeeds x i)
-    (record { reading = x.reading; beyond = x.beyond; held = w.nothing; supply = x.supply - 1 })
-    x
+    if succeeds x i then record x { held = w.nothing; supply = x.supply - 1 } else x
 
 abbrev pub after_cut : {H : Type 0} → Holding H → Stands H → ℕ → ℕ → Stands H
 after_cut w x tear supply =
-    record { reading = w.left_sectors tear x.held x.reading; beyond = x.beyond; held = w.nothing; supply = supply }
+    record x {
+      reading = w.left_sectors tear x.held x.reading;
+      held = w.nothing;
+      supply = supply;
+    }
 
 -- so each call of it makes one disk into another, and leaves nothing open
 abbrev pub memory_moves : {H : Type 0} → Holding H → Moves (MemoryDisk H)
@@ -101,7 +108,8 @@ mixture t old new = take t new ++ drop t old
 
 -- a mixture that is sound and neither content would be a made-up record: the old content stays in its place
 abbrev pub mended : List ℕ → List ℕ → List ℕ → List ℕ
-mended mixed old new = cond (sound mixed && (not (bytes_eq mixed old) && not (bytes_eq mixed new))) old mixed
+mended mixed old new =
+    if sound mixed && (not (bytes_eq mixed old) && not (bytes_eq mixed new)) then old else mixed
 
 -- what a cut leaves of a sector whose write is held back
 abbrev pub torn : ℕ → List ℕ → List ℕ → List ℕ
@@ -111,14 +119,15 @@ torn tear old new = mended (mixture (tear % 33) old new) old new
 abbrev pub left : ℕ → Option Held → List ℕ → List ℕ
 left tear None memory = memory
 left tear (Some h) memory =
-    cond (nat_lt h.sector (length (sectors memory)))
-    (stored memory h.sector (torn tear h.old (at (sectors memory) h.sector)))
-    memory
+    if nat_lt h.sector (length (sectors memory)) then
+    stored memory h.sector (torn tear h.old (at (sectors memory) h.sector))
+    else memory
 
 -- the same by sectors
 abbrev pub left_sectors : ℕ → Option Held → List (List ℕ) → List (List ℕ)
 left_sectors tear None sectors = sectors
-left_sectors tear (Some h) sectors = slice_set sectors h.sector (torn tear h.old (at sectors h.sector))
+left_sectors tear (Some h) sectors =
+    slice_set sectors h.sector (torn tear h.old (at sectors h.sector))
 
 -- the latest write is held back
 abbrev pub latest_write : Holding (Option Held)

@@ -1,5 +1,5 @@
 -- What a disk means, and what its calls do to the meaning.
-use Rattle.std.specs.Prelude.{◌≡◌, ℕ, ◌+◌, false, cond, ◌⊎◌, List, [], length, Ok, Err, Result, ◌==◌, nat_lt, slice_index_or, slice_set}
+use Rattle.std.specs.Prelude.{◌≡◌, ℕ, ◌+◌, false, if◌then◌else◌, ◌⊎◌, List, [], length, Ok, Err, Result, ◌==◌, nat_lt, slice_index_or, slice_set}
 use Rattle.std.specs.List.{AllByRecursion}
 use Rattle.record.specs.Sector.{sound}
 use Rattle.disk.specs.declared.fault.Cause.{Cause}
@@ -35,18 +35,27 @@ denied cause operation i = record { cause = cause; operation = operation; sector
 
 -- what a read of sector i finds
 abbrev pub found : List (List ℕ) → ℕ → Result (List ℕ) DiskFault
-found sectors i = cond (nat_lt i (length sectors)) (Ok (at sectors i)) (Err (denied NoSector Read i))
+found sectors i =
+    if nat_lt i (length sectors) then Ok (at sectors i) else Err (denied NoSector Read i)
 
 -- what a write or a flush answers where it succeeds with a value: a bad sector number is told ahead of darkness
 abbrev pub answered : {A : Type 0} → A → Operation → ℕ → ℕ → ℕ → Result A DiskFault
 answered value operation sectors supply i =
-    cond (nat_lt i sectors)
-    (cond (supply == 0) (Err (denied Dark operation i)) (Ok value))
-    (Err (denied NoSector operation i))
+    if nat_lt i sectors then
+    (if supply == 0 then Err (denied Dark operation i) else Ok value)
+    else Err (denied NoSector operation i)
 
 -- the same, of a disk and with nothing to answer
 abbrev pub answer_of : Operation → Meaning → ℕ → Result (Unit {0}) DiskFault
 answer_of operation m i = answered tt operation (count m) m.supply i
+
+-- some bytes are one of three contents
+abbrev pub IsOneOf : List ℕ → List ℕ → List ℕ → List ℕ → Type 0
+IsOneOf bytes a b c = (bytes ≡ a) ⊎ ((bytes ≡ b) ⊎ (bytes ≡ c))
+
+-- what a cut may leave of a sector: what was kept of it, what was read from it, or bytes that are not sound
+abbrev pub MayBeLeft : List ℕ → List ℕ → List ℕ → Type 0
+MayBeLeft bytes kept read = (bytes ≡ kept) ⊎ ((bytes ≡ read) ⊎ (sound bytes ≡ false))
 
 -- a write of bytes into sector i: it replaces that sector and no other; what is kept of a sector stays, or becomes what was
 -- read there before the write or after it
@@ -55,7 +64,7 @@ pub record Wrote (m : Meaning) (i : ℕ) (bytes : List ℕ) (after : Meaning) : 
   pub keeps_count : length after.kept ≡ length m.kept
   pub keeps :
       (k : ℕ) →
-      (at after.kept k ≡ at m.kept k) ⊎ ((at after.kept k ≡ at m.reading k) ⊎ (at after.kept k ≡ at after.reading k))
+      IsOneOf (at after.kept k) (at m.kept k) (at m.reading k) (at after.reading k)
   pub spends : after.supply + 1 ≡ m.supply
   pub leaves : after.beyond ≡ m.beyond
 
@@ -66,14 +75,10 @@ pub record Flushed (m after : Meaning) : Type 0 where
   pub spends : after.supply + 1 ≡ m.supply
   pub leaves : after.beyond ≡ m.beyond
 
--- a cut: of each sector is left what was kept of it, what was read from it, or bytes that are not sound; where the first two
--- were the same, nothing else is left
+-- a cut: of each sector is left what may be; where what was kept of it was what was read from it, nothing else is left
 pub record Cut (m : Meaning) (supply : ℕ) (after : Meaning) : Type 0 where
   pub reads_count : length after.reading ≡ length m.reading
-  pub reads :
-      (k : ℕ) →
-      (at after.reading k ≡ at m.kept k)
-      ⊎ ((at after.reading k ≡ at m.reading k) ⊎ (sound (at after.reading k) ≡ false))
+  pub reads : (k : ℕ) → MayBeLeft (at after.reading k) (at m.kept k) (at m.reading k)
   pub settled : (k : ℕ) → at m.kept k ≡ at m.reading k → at after.reading k ≡ at m.reading k
   pub keeps : after.kept ≡ after.reading
   pub supplied : after.supply ≡ supply

@@ -1,5 +1,7 @@
 -- A flat memory as a list of sectors of 32 bytes.
 use Rattle.std.specs.Prelude.{ℕ, zero, suc, ◌+◌, ◌*◌, ◌/◌, ◌≤◌, Bool, ◌&&◌, List, [], ◌∷◌, ◌++◌, length, take, drop, ◌==◌, nat_le}
+use Rattle.record.specs.declared.sector.TheConstants.{SECTOR_BYTES}
+use Rattle.disk.specs.declared.size.TheConstants.{LEAST_SECTORS, MOST_SECTORS}
 
 -- the first n sectors of a memory
 unfoldable pub chunks : ℕ → List ℕ → List (List ℕ)
@@ -20,8 +22,9 @@ stored memory i bytes = take (32 * i) memory ++ (bytes ++ drop (32 * i + 32) mem
 
 -- a disk has 10 to 2,048 sectors
 abbrev pub IsSize : ℕ → Type 0
-IsSize count = (10 ≤ count) × (count ≤ 2048)
+IsSize count = (LEAST_SECTORS ≤ count) × (count ≤ MOST_SECTORS)
 
 -- the test of that, and that the memory has their bytes and no others
 abbrev pub right_size : ℕ → ℕ → Bool
-right_size bytes count = nat_le 10 count && (nat_le count 2048 && bytes == 32 * count)
+right_size bytes count =
+    nat_le LEAST_SECTORS count && (nat_le count MOST_SECTORS && bytes == SECTOR_BYTES * count)

@@ -10,4 +10,8 @@ pub record Moves (D : Type 0) : Type 1 where
 -- those of a disk of which no more is said than what its calls do to its meaning
 abbrev pub anything : {D : Type 0} → Moves D
 anything =
-    record { writes = λ d i bytes d'. Unit {0}; flushes = λ d i d'. Unit {0}; cuts = λ d tear supply d'. Unit {0} }
+    record {
+      writes = λ d i bytes d'. Unit {0};
+      flushes = λ d i d'. Unit {0};
+      cuts = λ d tear supply d'. Unit {0};
+    }

@@ -6,7 +6,9 @@ use Rattle.std.proofs.lemmas.List.{length-take, length-drop}
 use Rattle.disk.specs.Memory.{IsSize, chunks, sectors}
 
 -- the first n sectors, where the memory has so many bytes
-chunks_shaped : (n : ℕ) (xs : List ℕ) → 32 * n ≤ length xs → AllByRecursion (λ sector. length sector ≡ 32) (chunks n xs)
+chunks_shaped :
+    (n : ℕ) (xs : List ℕ) → 32 * n ≤ length xs →
+    AllByRecursion (λ sector. length sector ≡ 32) (chunks n xs)
 unfolding chunks
 chunks_shaped zero xs h = tt
 chunks_shaped (suc n) xs h =

@@ -1,6 +1,6 @@
 // Disks without records, over memory handed in.
 ghost use Rattle.std.specs.Prelude.{◌≡◌, length, replicate, is_ok, if◌then◌else◌, MatchResult};
-ghost use Rattle.disk.specs.Devices.{memory_disk};
+ghost use Rattle.disk.specs.Devices.{memory_disk, MadeOver};
 ghost use Rattle.disk.specs.Memory.{right_size};
 ghost use Rattle.disk.specs.Blank.{BlankDisk};
 
@@ -10,7 +10,8 @@ use crate::size::{BadSize, is_right_size};
 
 // Clears memory that is that of a disk of so many sectors, and leaves any other as it is.
 fn clear(memory: &mut [u8], sectors: usize)
-    ensures { memory.new ≡ (if right_size (length memory.old) sectors then replicate (length memory.old) 0 else memory.old) }
+    ensures { let size = length memory.old in
+        memory.new ≡ (if right_size size sectors then replicate size 0 else memory.old) }
 {
     if is_right_size(memory.len(), sectors) {
         memory.fill(0);
@@ -24,7 +25,9 @@ fn clear_and_make<'a, H: HoldBack>(
     supply: u64,
 ) -> Result<MemoryDisk<'a, H>, BadSize<'a>>
     ensures test { is_ok result ≡ right_size (length memory.old) sectors }
-    ensures cases { MatchResult result (λ d. (d.sectors.memory.now ≡ replicate (length memory.old) 0) × (d.supply ≡ supply) × (d.held ≡ H.holding.nothing)) (λ e. e.memory.now ≡ memory.old) }
+    ensures cases { MatchResult result
+        (λ d. MadeOver H.holding (replicate (length memory.old) 0) supply d)
+        (λ e. e.memory.now ≡ memory.old) }
 {
     clear(memory, sectors);
     MemoryDisk::new(memory, sectors, supply)
@@ -38,7 +41,10 @@ pub fn blank_disk<'a, H: HoldBack>(
     supply: u64,
 ) -> Result<MemoryDisk<'a, H>, BadSize<'a>>
     ensures test { is_ok result ≡ right_size (length memory.old) sectors }
-    ensures cases { MatchResult result (λ d. BlankDisk sectors supply d.sectors.memory.now (memory_disk H.holding.before d) × (d.held ≡ H.holding.nothing)) (λ e. e.memory.now ≡ memory.old) }
+    ensures cases { MatchResult result
+        (λ d. BlankDisk sectors supply d.sectors.memory.now (memory_disk H.holding.before d)
+        × (d.held ≡ H.holding.nothing))
+        (λ e. e.memory.now ≡ memory.old) }
 {
     clear_and_make(memory, sectors, supply)
 }

@@ -26,13 +26,17 @@ pub trait Disk {
     // Replaces a sector. What is kept of it is open until a flush.
     fn write(&mut self, sector: usize, bytes: &[u8; SECTOR_BYTES]) -> Result<(), DiskFault>
         ensures answer { result ≡ answer_of Write (meaning self.old) sector }
-        ensures effect { MatchResult result (λ _. Wrote (meaning self.old) sector bytes.now (meaning self.new)) (λ _. meaning self.new ≡ meaning self.old) }
+        ensures effect { MatchResult result
+            (λ _. Wrote (meaning self.old) sector bytes.now (meaning self.new))
+            (λ _. meaning self.new ≡ meaning self.old) }
         ensures moves { moves.writes self.old sector bytes.now self.new };
 
     // Settles all writes. The sector is that of the latest write, which a fault then tells.
     fn flush(&mut self, sector: usize) -> Result<(), DiskFault>
         ensures answer { result ≡ answer_of Flush (meaning self.old) sector }
-        ensures effect { MatchResult result (λ _. Flushed (meaning self.old) (meaning self.new)) (λ _. meaning self.new ≡ meaning self.old) }
+        ensures effect { MatchResult result
+            (λ _. Flushed (meaning self.old) (meaning self.new))
+            (λ _. meaning self.new ≡ meaning self.old) }
         ensures moves { moves.flushes self.old sector self.new };
 
     // The current fails and comes back, with so many writes and flushes to succeed. The tear says how a write is torn.

@@ -1,8 +1,9 @@
 // Why a disk denied a call.
 ghost use Rattle.std.specs.Prelude.{◌≡◌, ◌-◌, Some};
-ghost use Rattle.disk.specs.Faults.{told, sector_told, name_of};
+ghost use Rattle.disk.specs.Faults.{cause_details, sector_told, name_of, cause_text, disk_fault_text};
 ghost use Rattle.disk.specs.Meaning.{answered};
 
+use std::error::Error;
 use std::fmt;
 
 // What was asked of the disk.
@@ -44,7 +45,7 @@ pub struct DiskFault {
 impl Cause {
     // The number that a denial for this cause goes by.
     pub fn number(self) -> u8
-        ensures { result ≡ (told self).number }
+        ensures { result ≡ (cause_details self).number }
     {
         match self {
             Cause::NoSector => 3,
@@ -54,7 +55,7 @@ impl Cause {
 
     // Whether a denial for this cause tells its sector. One of a sector that is not there does not.
     pub fn tells_sector(self) -> bool
-        ensures { result ≡ (told self).tells_sector }
+        ensures { result ≡ (cause_details self).tells_sector }
     {
         match self {
             Cause::NoSector => false,
@@ -66,7 +67,7 @@ impl Cause {
 impl DiskFault {
     // The number that the denial goes by.
     pub fn number(&self) -> u8
-        ensures { result ≡ (told self.now.cause).number }
+        ensures { result ≡ (cause_details self.now.cause).number }
     {
         self.cause.number()
     }
@@ -78,6 +79,36 @@ impl DiskFault {
         self.cause.tells_sector().then_some(self.sector)
     }
 }
+
+// Why a call was denied.
+impl fmt::Display for Cause {
+    ghost output = { λ cause. Some (cause_text cause) };
+
+    fn fmt<W: fmt::Write>(&self, f: &mut fmt::Formatter<W>) -> fmt::Result {
+        f.write_str(match self {
+            Cause::NoSector => "there is no such sector",
+            Cause::Dark => "the current has failed",
+        })
+    }
+}
+
+// What was denied, of which sector, and why.
+impl fmt::Display for DiskFault {
+    ghost output = { λ fault. Some (disk_fault_text fault) };
+
+    fn fmt<W: fmt::Write>(&self, f: &mut fmt::Formatter<W>) -> fmt::Result {
+        let DiskFault {
+            cause,
+            operation,
+            sector,
+        } = *self;
+        write!(f, "{operation} of sector {sector} denied: {cause}")
+    }
+}
+
+impl Error for Cause {}
+
+impl Error for DiskFault {}
 
 // One write or flush out of the supply: what is left of it.
 pub(crate) fn admit(

@@ -20,8 +20,10 @@ pub trait HoldBack: Drop {
 
     // Makes of the sectors what a cut leaves of them.
     fn tear(&self, tear: u64, sectors: &mut Sectors<'_>)
-        ensures memory { sectors.new.memory.now ≡ holding.left tear self.now sectors.old.memory.now }
-        ensures sectors { cut_up sectors.new.memory.now ≡ holding.left_sectors tear self.now (cut_up sectors.old.memory.now) }
+        ensures memory { let memory = sectors.old.memory.now in
+            sectors.new.memory.now ≡ holding.left tear self.now memory }
+        ensures sectors { let memory = sectors.old.memory.now in
+            cut_up sectors.new.memory.now ≡ holding.left_sectors tear self.now (cut_up memory) }
         ensures spare { spare sectors.new.memory.now ≡ spare sectors.old.memory.now };
 
     // They keep the laws.

@@ -1,6 +1,6 @@
 // A disk over memory handed in.
 ghost use Rattle.std.specs.Prelude.{◌≡◌, length, is_ok, IfOk, if◌then◌else◌, MatchResult};
-ghost use Rattle.disk.specs.Devices.{memory_disk, memory_moves};
+ghost use Rattle.disk.specs.Devices.{memory_disk, memory_moves, MadeOver};
 ghost use Rattle.disk.specs.Meaning.{at, answer_of, Wrote, Flushed, Cut};
 ghost use Rattle.disk.specs.Shape.{all_shaped, all_sized};
 ghost use Rattle.disk.specs.Memory.{right_size, sectors as cut_up, stored};
@@ -30,7 +30,9 @@ impl<'a, H: HoldBack> MemoryDisk<'a, H> {
     ) -> Result<MemoryDisk<'a, H>, BadSize<'a>>
         ensures test { is_ok result ≡ right_size (length memory.old) sectors }
         ensures count { IfOk result (λ d. length (cut_up d.sectors.memory.now) ≡ sectors) }
-        ensures cases { MatchResult result (λ d. (d.sectors.memory.now ≡ memory.old) × (d.supply ≡ supply) × (d.held ≡ H.holding.nothing)) (λ e. e.memory.now ≡ memory.old) }
+        ensures cases { MatchResult result
+            (λ d. MadeOver H.holding memory.old supply d)
+            (λ e. e.memory.now ≡ memory.old) }
     {
         let sectors = Sectors::over(memory, sectors)?;
         Ok(MemoryDisk {
@@ -46,7 +48,10 @@ impl<H: HoldBack> Disk for MemoryDisk<'_, H> {
 
     ghost moves = { memory_moves H.holding };
 
-    ghost shaped = { λ disk. record { bytes = all_shaped disk.sectors.memory.now; keeps = H.lawful.before_count disk.held (cut_up disk.sectors.memory.now) } };
+    ghost shaped = { λ disk. record {
+      bytes = all_shaped disk.sectors.memory.now;
+      keeps = H.lawful.before_count disk.held (cut_up disk.sectors.memory.now);
+    } };
 
     ghost sized = { λ disk. all_sized disk.sectors.memory.now disk.sectors.sized };
 
@@ -60,10 +65,17 @@ impl<H: HoldBack> Disk for MemoryDisk<'_, H> {
 
     fn write(&mut self, sector: usize, bytes: &[u8; SECTOR_BYTES]) -> Result<(), DiskFault>
         ensures answer { result ≡ answer_of Write (memory_disk H.holding.before self.old) sector }
-        ensures effect { MatchResult result (λ _. Wrote (memory_disk H.holding.before self.old) sector bytes.now (memory_disk H.holding.before self.new)) (λ _. memory_disk H.holding.before self.new ≡ memory_disk H.holding.before self.old) }
+        ensures effect { let m = memory_disk H.holding.before in
+            MatchResult result
+            (λ _. Wrote (m self.old) sector bytes.now (m self.new))
+            (λ _. m self.new ≡ m self.old) }
         ensures moves { (memory_moves H.holding).writes self.old sector bytes.now self.new }
-        ensures memory { self.new.sectors.memory.now ≡ (if is_ok result then stored self.old.sectors.memory.now sector bytes.now else self.old.sectors.memory.now) }
-        ensures holds { self.new.held ≡ (if is_ok result then H.holding.with_write self.old.held sector (at (cut_up self.old.sectors.memory.now) sector) else self.old.held) }
+        ensures memory { let memory = self.old.sectors.memory.now in
+            self.new.sectors.memory.now
+            ≡ (if is_ok result then stored memory sector bytes.now else memory) }
+        ensures holds { let replaced = at (cut_up self.old.sectors.memory.now) sector in
+            let held = H.holding.with_write self.old.held sector replaced in
+            self.new.held ≡ (if is_ok result then held else self.old.held) }
     {
         self.supply = admit(Operation::Write, sector, self.sectors.count(), self.supply)?;
         let old = self.sectors.load(sector);
@@ -74,10 +86,14 @@ impl<H: HoldBack> Disk for MemoryDisk<'_, H> {
 
     fn flush(&mut self, sector: usize) -> Result<(), DiskFault>
         ensures answer { result ≡ answer_of Flush (memory_disk H.holding.before self.old) sector }
-        ensures effect { MatchResult result (λ _. Flushed (memory_disk H.holding.before self.old) (memory_disk H.holding.before self.new)) (λ _. memory_disk H.holding.before self.new ≡ memory_disk H.holding.before self.old) }
+        ensures effect { let m = memory_disk H.holding.before in
+            MatchResult result
+            (λ _. Flushed (m self.old) (m self.new))
+            (λ _. m self.new ≡ m self.old) }
         ensures moves { (memory_moves H.holding).flushes self.old sector self.new }
         ensures memory { self.new.sectors.memory.now ≡ self.old.sectors.memory.now }
-        ensures holds { self.new.held ≡ (if is_ok result then H.holding.nothing else self.old.held) }
+        ensures holds { self.new.held
+            ≡ (if is_ok result then H.holding.nothing else self.old.held) }
     {
         self.supply = admit(Operation::Flush, sector, self.sectors.count(), self.supply)?;
         self.held = H::nothing();
@@ -85,10 +101,13 @@ impl<H: HoldBack> Disk for MemoryDisk<'_, H> {
     }
 
     fn cut(&mut self, tear: u64, supply: u64)
-        ensures meaning { Cut (memory_disk H.holding.before self.old) supply (memory_disk H.holding.before self.new) }
+        ensures meaning { let m = memory_disk H.holding.before in
+            Cut (m self.old) supply (m self.new) }
         ensures moves { (memory_moves H.holding).cuts self.old tear supply self.new }
-        ensures memory { self.new.sectors.memory.now ≡ H.holding.left tear self.old.held self.old.sectors.memory.now }
-        ensures sectors { cut_up self.new.sectors.memory.now ≡ H.holding.left_sectors tear self.old.held (cut_up self.old.sectors.memory.now) }
+        ensures memory { let memory = self.old.sectors.memory.now in
+            self.new.sectors.memory.now ≡ H.holding.left tear self.old.held memory }
+        ensures sectors { let before = cut_up self.old.sectors.memory.now in
+            cut_up self.new.sectors.memory.now ≡ H.holding.left_sectors tear self.old.held before }
         ensures holds { self.new.held ≡ H.holding.nothing }
     {
         self.held.tear(tear, &mut self.sectors);

@@ -1,6 +1,6 @@
 // Memory handed in, as sectors of 32 bytes.
-ghost use Rattle.std.specs.Prelude.{◌≡◌, ◌/◌, ◌<◌, ◌≤◌, [], ◌++◌, length, drop, is_ok, IfOk, MatchResult, slice_index_or, slice_set};
-ghost use Rattle.disk.specs.Meaning.{found};
+ghost use Rattle.std.specs.Prelude.{◌≡◌, ◌/◌, ◌<◌, ◌≤◌, ◌++◌, length, drop, is_ok, IfOk, MatchResult, slice_set};
+ghost use Rattle.disk.specs.Meaning.{at, found};
 ghost use Rattle.disk.specs.Memory.{IsSize, right_size, sectors as cut_up, spare, stored};
 
 use crate::fault::{Cause, DiskFault, Operation};
@@ -28,7 +28,9 @@ impl<'a> Sectors<'a> {
     pub(crate) fn over(memory: &'a mut [u8], sectors: usize) -> Result<Sectors<'a>, BadSize<'a>>
         ensures test { is_ok result ≡ right_size (length memory.old) sectors }
         ensures count { IfOk result (λ s. length (cut_up s.memory.now) ≡ sectors) }
-        ensures cases { MatchResult result (λ s. s.memory.now ≡ memory.old) (λ e. e.memory.now ≡ memory.old) }
+        ensures cases { MatchResult result
+            (λ s. s.memory.now ≡ memory.old)
+            (λ e. e.memory.now ≡ memory.old) }
     {
         if is_right_size(memory.len(), sectors) {
             Ok(Sectors { memory })
@@ -48,7 +50,7 @@ impl<'a> Sectors<'a> {
     // A copy of a sector that is there.
     pub(crate) fn load(&self, sector: usize) -> [u8; SECTOR_BYTES]
         requires { sector < length self.now.memory.now / 32 }
-        ensures { result ≡ slice_index_or (cut_up self.now.memory.now) sector [] }
+        ensures { result ≡ at (cut_up self.now.memory.now) sector }
     {
         let from = SECTOR_BYTES * sector;
         let mut bytes = [0; SECTOR_BYTES];
@@ -59,7 +61,8 @@ impl<'a> Sectors<'a> {
     // Writes a sector that is there, and no byte beside it.
     pub(crate) fn store(&mut self, sector: usize, bytes: &[u8; SECTOR_BYTES])
         requires { sector < length self.old.memory.now / 32 }
-        ensures sectors { cut_up self.new.memory.now ≡ slice_set (cut_up self.old.memory.now) sector bytes.now }
+        ensures sectors { let before = cut_up self.old.memory.now in
+            cut_up self.new.memory.now ≡ slice_set before sector bytes.now }
         ensures spare { spare self.new.memory.now ≡ spare self.old.memory.now }
         ensures memory { self.new.memory.now ≡ stored self.old.memory.now sector bytes.now }
     {

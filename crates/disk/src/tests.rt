@@ -27,6 +27,7 @@ fn faithful_until_dark(rt: HostRuntime) -> Result<(), Fail> {
     };
     assert_eq!(rt; disk.write(4, &OLD), Err(dark));
     assert_eq!(rt; dark.number(), 12);
+    assert_eq!(rt; dark.sector_told(), Some(4));
     assert_eq!(rt; disk.read(4)?, NEW);
     disk.cut(7, 1);
     assert_eq!(rt; disk.read(4)?, NEW);
@@ -97,6 +98,7 @@ fn no_such_sector(rt: HostRuntime) -> Result<(), Fail> {
     };
     assert_eq!(rt; disk.write(10, &NEW), Err(missing));
     assert_eq!(rt; missing.number(), 3);
+    assert_eq!(rt; missing.sector_told(), None);
     assert!(rt; disk.read(10).is_err());
     assert!(rt; disk.flush(10).is_err());
     Ok(())

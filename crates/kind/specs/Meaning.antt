@@ -29,4 +29,5 @@ pub record LawfulKind (k : Numbering) : Type 0 where
   pub most : k.block ≤ 2 ^ 28
   -- in each of the series 0 to 7 identifiers rise with the rank, as far as the top
   pub rising :
-      (s : ℕ) (a b : Rank) → s < 8 → a.0 < b.0 → b.0 ≤ k.top.0 → (k.identifier s a).0 < (k.identifier s b).0
+      (s : ℕ) (a b : Rank) →
+      s < 8 → a.0 < b.0 → b.0 ≤ k.top.0 → (k.identifier s a).0 < (k.identifier s b).0

@@ -19,11 +19,14 @@ within_by_test low high n passed =
     (leb-true low n both.0, leb-true n high both.1)
 
 -- what is made of a test that passed, and the fault where it did not
-abbrev pub if_passed : {X : Type 0} → (test : Bool) → SettingFault → (IsTrue test → X) → Result X SettingFault
+abbrev pub if_passed :
+    {X : Type 0} → (test : Bool) → SettingFault → (IsTrue test → X) → Result X SettingFault
 if_passed true fault make = Ok (make refl)
 if_passed false fault make = Err fault
 
 -- what is made of a number from low to high, and the fault for any other
-abbrev pub made_within : {X : Type 0} → (low high n : ℕ) → SettingFault → (IsWithin low high n → X) → Result X SettingFault
+abbrev pub made_within :
+    {X : Type 0} → (low high n : ℕ) → SettingFault → (IsWithin low high n → X) →
+    Result X SettingFault
 made_within low high n fault make =
     if_passed (is_within low high n) fault (λ passed. make (within_by_test low high n passed))

@@ -6,12 +6,14 @@ use Rattle.record.specs.declared.numbers.Identifier.{Identifier}
 use Rattle.kind.specs.declared.fault.SettingFault.{SettingFault}
 use Rattle.kind.specs.declared.fault.SettingFault.TheVariants.{BlockSize}
 use Rattle.kind.specs.declared.serial.SerialKind.{SerialKind}
+use Rattle.kind.specs.declared.serial.TheConstants.{LARGEST}
 use Rattle.kind.specs.Meaning.{Numbering}
 use Rattle.kind.specs.Range.{made_within}
 
 -- a block size from 1 to 10,000 makes a kind, and any other is denied
 abbrev pub serial_kind_of : ℕ → Result SerialKind SettingFault
-serial_kind_of size = made_within 1 10000 size BlockSize (λ fits. record { size = size; in_range = fits })
+serial_kind_of size =
+    made_within 1 LARGEST size BlockSize (λ fits. record { size = size; in_range = fits })
 
 -- a record of this kind begins with 1
 abbrev pub serial_tag : SerialKind → ℕ

@@ -14,11 +14,18 @@ packed p = record { 0 = p.milliseconds * 2 ^ 22 + p.worker * 2 ^ 12 + p.step }
 abbrev pub packing : Parts → Result Id SettingFault
 packing p =
     provided (nat_lt p.milliseconds (2 ^ 41)) Milliseconds
-    (provided (nat_lt p.worker (2 ^ 10)) Worker (provided (nat_lt p.step (2 ^ 12)) Step (Ok (packed p))))
+    (provided (nat_lt p.worker (2 ^ 10)) Worker
+    (provided (nat_lt p.step (2 ^ 12)) Step
+    (Ok (packed p))))
 
 -- what stands in the bits of each field
 abbrev pub fields : Id → Parts
-fields i = record { milliseconds = i.0 / 2 ^ 22; worker = i.0 / 2 ^ 12 % 2 ^ 10; step = i.0 % 2 ^ 12 }
+fields i =
+    record {
+      milliseconds = i.0 / 2 ^ 22;
+      worker = i.0 / 2 ^ 12 % 2 ^ 10;
+      step = i.0 % 2 ^ 12;
+    }
 
 -- taking apart denies what does not fit the 63 bits of the fields
 abbrev pub taking_apart : Id → Result Parts SettingFault

@@ -28,7 +28,8 @@ pub trait Kind {
 
     // The identifier of a rank in a series; none for a series above 7 and none for a rank above the top.
     fn identifier(&self, series: u8, rank: Rank) -> Option<Identifier>
-        ensures { SomeIff result ((series < 8) × (rank.0 ≤ (numbering self.now).top.0)) ((numbering self.now).identifier series rank) };
+        ensures { let k = numbering self.now in
+            SomeIff result ((series < 8) × (rank.0 ≤ k.top.0)) (k.identifier series rank) };
 
     // It keeps the laws.
     ghost lawful: { (k : Self) → LawfulKind (numbering k) };

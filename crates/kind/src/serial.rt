@@ -1,6 +1,7 @@
 // Serial identifiers: 1, 2, 3 and so on, whatever the clock says.
 ghost use Rattle.std.specs.Prelude.{◌≡◌};
 ghost use Rattle.kind.specs.Range.{IsWithin};
+ghost use Rattle.kind.specs.declared.serial.TheConstants.{LARGEST};
 
 use crate::fault::SettingFault;
 use crate::meaning::Kind;
@@ -13,7 +14,7 @@ const LARGEST: u64 = 10_000;
 #[derive(Clone, Copy, PartialEq, Eq, Debug)]
 pub struct SerialKind {
     size: u64,
-    ghost in_range: { IsWithin 1 10000 size },
+    ghost in_range: { IsWithin 1 LARGEST size },
 }
 
 impl SerialKind {

@@ -1,6 +1,7 @@
 // Time-sequenced identifiers: a rank is a millisecond and a step within it.
 ghost use Rattle.std.specs.Prelude.{◌≡◌};
 ghost use Rattle.kind.specs.Range.{IsWithin};
+ghost use Rattle.kind.specs.declared.time.TheConstants.{LONGEST, LAST_BOX};
 
 use crate::fault::SettingFault;
 use crate::meaning::Kind;
@@ -20,7 +21,7 @@ const LAST_BOX: u64 = 127;
 #[derive(Clone, Copy, PartialEq, Eq, Debug)]
 pub struct Lease {
     milliseconds: u64,
-    ghost in_range: { IsWithin 1 60000 milliseconds },
+    ghost in_range: { IsWithin 1 LONGEST milliseconds },
 }
 
 impl Lease {
@@ -75,7 +76,7 @@ pub struct TimeKind {
     lease: Lease,
     box_number: u64,
     correction: Correction,
-    ghost in_range: { IsWithin 0 127 box_number },
+    ghost in_range: { IsWithin 0 LAST_BOX box_number },
 }
 
 impl TimeKind {

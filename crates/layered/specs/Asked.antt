@@ -15,7 +15,8 @@ flushes_in (settle i ∷ ops) = suc (flushes_in ops)
 -- each of these operations has raised its count by one, as far as 64 bits go
 pub record CountsEach (before : Counts) (ops : List Op) (after : Counts) : Type 0 where
   pub writes : before.writes + writes_in ops < 2 ^ 64 → after.writes ≡ before.writes + writes_in ops
-  pub flushes : before.flushes + flushes_in ops < 2 ^ 64 → after.flushes ≡ before.flushes + flushes_in ops
+  pub flushes :
+      before.flushes + flushes_in ops < 2 ^ 64 → after.flushes ≡ before.flushes + flushes_in ops
   pub cuts : after.cuts ≡ before.cuts
 
 -- whatever operations made a counted disk of another one, its counts tell each of them

@@ -23,16 +23,18 @@ with_flush counts = record counts { flushes = one_more counts.flushes }
 abbrev pub with_cut : Counts → Counts
 with_cut counts = record counts { cuts = one_more counts.cuts }
 
--- on a counted disk each call, denied or not, is counted, and the disk below goes by its own relation
+-- each call, a denied one too, is counted, and the disk below goes by its own relation
 abbrev pub counted_moves : {D : Type 0} → Moves D → Moves (Counted D)
 counted_moves below =
     record {
-      writes = λ d i bytes d'. below.writes d.disk i bytes d'.disk × (d'.counts ≡ with_write d.counts);
+      writes =
+          λ d i bytes d'. below.writes d.disk i bytes d'.disk × (d'.counts ≡ with_write d.counts);
       flushes = λ d i d'. below.flushes d.disk i d'.disk × (d'.counts ≡ with_flush d.counts);
-      cuts = λ d tear supply d'. below.cuts d.disk tear supply d'.disk × (d'.counts ≡ with_cut d.counts);
+      cuts =
+          λ d tear supply d'. below.cuts d.disk tear supply d'.disk × (d'.counts ≡ with_cut d.counts);
     }
 
--- where chance tears, a cut leaves what the disk below makes of some tear; writes and flushes leave the source as it is
+-- where chance tears, a cut is that of the disk below with some tear; no other call asks the source
 abbrev pub chance_moves : {D C : Type 0} → Moves D → Moves (ByChance D C)
 chance_moves below =
     record {

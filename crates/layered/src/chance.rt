@@ -11,7 +11,8 @@ pub trait Chance {
     fn draw(&mut self) -> u64;
 }
 
-// Any disk, with a source that says how each cut tears it: nothing of the value before a cut tells what the cut leaves.
+// Any disk, with a source that says how each cut tears it. No function of its value tells what a
+// cut leaves.
 #[derive(Drop)]
 pub struct ByChance<D, C> {
     disk: D,

@@ -6,7 +6,8 @@ ghost use Rattle.layered.specs.Layers.{none_asked, counted_moves};
 use disk::{Disk, DiskFault};
 use record::SECTOR_BYTES;
 
-// How often each call was made that may change a disk, denied ones with it. Each number stays at the greatest `u64`.
+// How often each call was made that may change a disk, denied ones with it. Each number stays at
+// the greatest `u64`.
 #[derive(Clone, Copy, PartialEq, Eq, Debug)]
 pub struct Counts {
     pub writes: u64,
@@ -34,7 +35,8 @@ impl<D: Disk> Counted<D> {
         Counted { disk, counts }
     }
 
-    // What was asked so far. Whatever operations made this disk of another counted one, each of them is in it.
+    // What was asked so far. Whatever operations made this disk of another counted one, each of
+    // them is in it.
     pub fn counts(&self) -> Counts
         ensures value { result ≡ self.now.counts }
         ensures each { TellsEach D.moves self.now }

@@ -21,7 +21,8 @@ place_text (Some sector) = codes ", sector " ++ decimal sector
 -- a denial: its number, and the sector where it tells one
 abbrev pub denied_text : ServerFault → List ℕ
 denied_text fault =
-    codes "denied with " ++ (decimal (particulars fault).number ++ place_text (particulars fault).sector)
+    codes "denied with "
+    ++ (decimal (particulars fault).number ++ place_text (particulars fault).sector)
 
 -- what was asked
 abbrev pub call_text : Call → List ℕ

@@ -1,9 +1,9 @@
 -- The CRC-32 of IEEE 802.3, bit by bit.
-use Rattle.std.specs.Prelude.{◌≡◌, ℕ, zero, suc, ◌/◌, ◌%◌, cond, List, [], ◌∷◌, codes, ◌==◌, bit_xor}
+use Rattle.std.specs.Prelude.{◌≡◌, ℕ, zero, suc, ◌/◌, ◌%◌, if◌then◌else◌, List, [], ◌∷◌, codes, ◌==◌, bit_xor}
 
 -- one bit leaves the register at its low end; a 1 turns over the bits of the polynomial
 unfoldable pub shift : ℕ → ℕ
-shift r = cond (r % 2 == 1) (bit_xor (r / 2) 0xEDB88320) (r / 2)
+shift r = if r % 2 == 1 then bit_xor (r / 2) 0xEDB88320 else r / 2
 
 -- so many bits leave, one after the other
 unfoldable pub shifts : ℕ → ℕ → ℕ
@@ -23,6 +23,6 @@ register r (b ∷ bs) = register (feed r b) bs
 unfoldable pub crc : List ℕ → ℕ
 crc bs = bit_xor (register 0xFFFFFFFF bs) 0xFFFFFFFF
 
--- the published check value, and the checksum of no bytes
+-- the text 123456789 has the published check value, and no bytes have 0
 abbrev pub CheckValues : Type 0
 CheckValues = (crc (codes "123456789") ≡ 0xCBF43926) × (crc [] ≡ 0)

@@ -1,6 +1,7 @@
 -- A sector of 32 bytes, and the record that it holds.
-use Rattle.std.specs.Prelude.{◌≡◌, ℕ, zero, suc, ◌+◌, ◌*◌, ◌/◌, ◌%◌, ◌^◌, Bool, true, cond, ◌&&◌, List, [], ◌∷◌, ◌++◌, Some, None, Option, take, drop, replicate, ◌==◌, nat_le, nat_lt, slice_index}
+use Rattle.std.specs.Prelude.{◌≡◌, ℕ, zero, suc, ◌+◌, ◌*◌, ◌/◌, ◌%◌, Bool, true, if◌then◌else◌, ◌&&◌, List, [], ◌∷◌, ◌++◌, Some, None, Option, take, drop, replicate, ◌==◌, nat_le, nat_lt, slice_index}
 use Rattle.record.specs.Crc.{crc}
+use Rattle.record.specs.declared.sector.TheConstants.{LAST_SEQUENCE}
 use Rattle.record.specs.declared.sector.Content.{Content}
 use Rattle.record.specs.declared.sector.Content.TheVariants.{Blank, Foreign, Record as Holds}
 use Rattle.record.specs.declared.sector.Format.{Format}
@@ -35,7 +36,8 @@ pub record Parts : Type 0 where
   pub zeroed : Bool
   pub «record» : Record
 
--- tag and series stand in bytes 0 and 1, the sequence number in 4 to 11, the end in 12 to 19; bytes 2 and 3 and 20 to 27 have to be zero
+-- tag and series stand in bytes 0 and 1, the sequence number in 4 to 11, the end in 12 to 19; bytes 2 and 3 and 20 to 27 have
+-- to be zero
 unfoldable pub parts : List ℕ → Parts
 parts s =
     record {
@@ -51,17 +53,17 @@ parts s =
 
 -- the tag and the record, where those bytes are zero
 abbrev pub told_by : Parts → Option (ℕ × Record)
-told_by p = cond p.zeroed (Some (p.tag, p.«record»)) None
+told_by p = if p.zeroed then Some (p.tag, p.«record») else None
 
 -- whether a number names sector i of n: number mod n is i; of 0 sectors it names none
 abbrev pub names : ℕ → ℕ → ℕ → Bool
 names n number i = nat_lt 0 n && number % n == i
 
--- a series below 8, a sequence number from 1 to 2^62 - 1 that names the sector, an end from 1 to one above the top of the kind
+-- a series below 8, a sequence number from 1 to the last that names the sector, an end from 1 to one above the kind's top
 abbrev pub lawful : Format → ℕ → Record → Bool
 lawful f i r =
     nat_lt r.series 8
-    && (nat_lt 0 r.sequence.0 && nat_lt r.sequence.0 (2 ^ 62))
+    && (nat_lt 0 r.sequence.0 && nat_le r.sequence.0 LAST_SEQUENCE)
     && (nat_lt 0 r.end.0 && nat_le r.end.0 (f.top.0 + 1))
     && names f.sectors r.sequence.0 i
 
@@ -71,7 +73,8 @@ belongs f i p = p.tag == f.tag && (p.zeroed && lawful f i p.«record»)
 
 -- what sector i of a disk holds: blank where it is not sound, foreign where it is sound and no record
 unfoldable pub content : Format → ℕ → List ℕ → Content
-content f i s = cond (sound s) (cond (belongs f i (parts s)) (Holds (parts s).«record») Foreign) Blank
+content f i s =
+    if sound s then (if belongs f i (parts s) then Holds (parts s).«record» else Foreign) else Blank
 
 -- the 28 bytes under a record's checksum
 unfoldable pub body : ℕ → Record → List ℕ
@@ -84,7 +87,9 @@ encoded tag r = body tag r ++ bytes_of 4 (crc (body tag r))
 
 -- bytes read back as this record on every disk of this tag where its numbers are lawful, and elsewhere as foreign
 abbrev pub ReadsBack : ℕ → Record → List ℕ → Type 0
-ReadsBack tag r s = (f : Format) (i : ℕ) → content f i s ≡ cond (tag == f.tag && lawful f i r) (Holds r) Foreign
+ReadsBack tag r s =
+    (f : Format) (i : ℕ) →
+    content f i s ≡ (if tag == f.tag && lawful f i r then Holds r else Foreign)
 
 -- bytes that are blank on every disk
 abbrev pub AlwaysBlank : List ℕ → Type 0

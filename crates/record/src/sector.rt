@@ -1,6 +1,7 @@
 // A record and the 32 bytes of its sector.
 ghost use Rattle.std.specs.Prelude.{◌≡◌, ◌+◌, ◌≤◌, ◌&&◌, length, replicate, ◌==◌};
-ghost use Rattle.record.specs.Sector.{sound, lawful, little, bytes_at, parts, told_by, content, encoded, ReadsBack, AlwaysBlank};
+ghost use Rattle.record.specs.Sector.{sound, lawful, little, bytes_at, parts, told_by};
+ghost use Rattle.record.specs.Sector.{content, encoded, ReadsBack, AlwaysBlank};
 
 use crate::crc::crc32;
 use crate::numbers::{Rank, Sequence};
@@ -128,7 +129,7 @@ pub fn encode(tag: u8, record: Record) -> [u8; SECTOR_BYTES]
 
 // A cleared sector, which is blank: the checksum of 28 zero bytes is not 0.
 pub fn cleared() -> [u8; SECTOR_BYTES]
-    ensures bytes { result ≡ replicate 32 0 }
+    ensures bytes { result ≡ replicate SECTOR_BYTES 0 }
     ensures blank { AlwaysBlank result }
 {
     [0; SECTOR_BYTES]

@@ -42,6 +42,7 @@ ends denial = nat_le 2 (denial_columns denial).code && nat_le (denial_columns de
 -- series, code and last number of an answer
 abbrev pub columns_of : Result Answer Denial → Columns
 columns_of (Ok Set) = coded 0
-columns_of (Ok (Given series identifier)) = record (coded 0) { series = shown series; last = identifier.0 }
+columns_of (Ok (Given series identifier)) =
+    record (coded 0) { series = shown series; last = identifier.0 }
 columns_of (Ok (Woken top)) = record (coded 0) { last = top.0 }
 columns_of (Err denial) = denial_columns denial

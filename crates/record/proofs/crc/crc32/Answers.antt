@@ -33,7 +33,9 @@ unfolding crc
 returns c =
     let r : ℕ = c.loop-byte.register in
     let whole : iter_rest (copied_source c.into_iter-byte-iterator.result) ≡ c.args.bytes.now =
-    ap (λ s. iter_rest (copied_source s)) c.into_iter-byte-iterator.ensures.into_iter_gives ∙ ap iter_rest c.copied-byte-items.ensures.source ∙ c.iter.ensures.rest in
+    ap (λ s. iter_rest (copied_source s)) c.into_iter-byte-iterator.ensures.into_iter_gives
+    ∙ ap iter_rest c.copied-byte-items.ensures.source
+    ∙ c.iter.ensures.rest in
     let road = YieldsList-from_copied {s = c.into_iter-byte-iterator.result} (YieldsList-from_slice c.args.bytes.now whole) in
     let end = YieldsList-end road c.loop-byte.yielded _ c.loop-byte.yielded_by c.next.result _ c.in-None.is c.next.ensures.steps in
     let all : c.loop-byte.yielded ≡ c.args.bytes.now = sym (map-id c.loop-byte.yielded) ∙ end.0 in
