@@ -22,7 +22,7 @@ use Rattle.simulator.specs.Calls.{answer_in, turn_for, Extends}
 use Rattle.simulator.specs.Devices.{meaning_of, device_moves}
 use Rattle.simulator.specs.Histories.{HasServed}
 use Rattle.simulator.specs.Kinds.{numbering_of}
-use Rattle.simulator.specs.Steps.{given, woken_up}
+use Rattle.simulator.specs.Steps.{give_answer, woken_up}
 use Rattle.simulator.specs.declared.answer.Answer.{Answer}
 use Rattle.simulator.specs.declared.answer.Denial.{Denial}
 use Rattle.simulator.specs.declared.any_kind.AnyKind.{AnyKind}
@@ -61,7 +61,7 @@ put_together kind kind' first disk state turns same_kind same is before =
     (begun-at device_moves meaning_of (numbering_of kind) first state disk is same))
 
 -- what the answer to a line tells of the server's
-given_told : (series : ℕ) (r : Result Identifier ServerFault) → answer_in (given series r) ≡ Some (OfGive r)
+given_told : (series : ℕ) (r : Result Identifier ServerFault) → answer_in (give_answer series r) ≡ Some (OfGive r)
 given_told series (Ok identifier) = refl
 given_told series (Err fault) = refl
 
@@ -84,7 +84,7 @@ module _ (kind : AnyKind) (state after : State) (d d' : Device) (f : Fields) (an
       (more before.first before.history before.reached)
 
   pub request_served :
-      (r : Result Identifier ServerFault) → answer ≡ given f.a r →
+      (r : Result Identifier ServerFault) → answer ≡ give_answer f.a r →
       Gave (numbering_of kind) state (meaning_of d) (min f.a 255) (record { 0 = f.b }) r after (meaning_of d') →
       Chain device_moves d (tries (numbering_of kind) state (meaning_of d) (one (min f.a 255) (record { 0 = f.b }))) d' →
       Extends (HasServed kind state d) (turn_for Give f answer) (HasServed kind after d')
