@@ -12,7 +12,7 @@ use Rattle.kind.specs.declared.time.Lease.{Lease}
 use Rattle.kind.specs.declared.time.TimeKind.{TimeKind}
 use Rattle.record.specs.declared.numbers.Identifier.{Identifier}
 use Rattle.record.specs.declared.numbers.Sequence.{Sequence}
-use Rattle.ring.specs.Ring.{recovered}
+use Rattle.ring.specs.Ring.{recover}
 use Rattle.server.specs.Rules.{format, woken, top_told}
 use Rattle.server.specs.declared.fault.ServerFault.{ServerFault}
 use Rattle.server.specs.declared.state.State.{State}
@@ -100,7 +100,7 @@ woken_up (Err fault) = Err (NotWoken fault)
 abbrev pub woken_on : Make → AnyKind → List ℕ → Meaning → Done
 woken_on make kind spare m =
     record {
-      answer = woken_up (top_told (recovered (format (numbering_of kind) m) m.reading));
+      answer = woken_up (top_told (recover (format (numbering_of kind) m) m.reading));
       after = runs make kind (woken (numbering_of kind) m) m spare;
     }
 
