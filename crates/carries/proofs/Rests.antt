@@ -6,7 +6,7 @@ use Rattle.disk.specs.Meaning.{Meaning}
 use Rattle.disk.specs.Blank.{WithoutRecords}
 use Rattle.ring.specs.Left.{Recovers, LawfulReservation}
 use Rattle.ring.specs.Operations.{outcome}
-use Rattle.ring.specs.Ring.{known, plan, recovered, top, Step}
+use Rattle.ring.specs.Ring.{known, plan, recover, top, Step}
 use Rattle.ring.specs.Search.{reservation}
 use Rattle.ring.specs.declared.fault.RingFault.{RingFault}
 use Rattle.ring.specs.declared.ring.Ring.{Ring}
@@ -48,7 +48,7 @@ module _ (start : Meaning) (without : WithoutRecords start) where
   start_recovers = blank_recovers f start refl (omega arith) (omega arith) without
 
   -- the ring that recovery answers there
-  pub new_format : (r : Ring) → Ok r ≡ recovered f start.reading → r.format ≡ f
+  pub new_format : (r : Ring) → Ok r ≡ recover f start.reading → r.format ≡ f
   new_format r e =
       let is : Ok r ≡ Ok (record { format = f; known = known f start.reading }) = e ∙ recovers_answer f start.reading start_recovers in
       grind arith

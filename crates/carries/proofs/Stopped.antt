@@ -5,7 +5,7 @@ use Rattle.record.specs.declared.sector.Format.{Format}
 use Rattle.disk.specs.Meaning.{Meaning, Cut}
 use Rattle.ring.specs.Left.{Recovers, LawfulReservation, Left}
 use Rattle.ring.specs.Operations.{Went, performed}
-use Rattle.ring.specs.Ring.{Agrees, known, plan, recovered, top}
+use Rattle.ring.specs.Ring.{Agrees, known, plan, recover, top}
 use Rattle.ring.specs.Search.{Ended, refusal}
 use Rattle.ring.specs.declared.fault.RingFault.{RingFault}
 use Rattle.ring.specs.declared.ring.Ring.{Ring}
@@ -26,10 +26,10 @@ module _ (start woken : Meaning) (supply : ℕ) (lawful : LawfulReservation (for
   same = cut_at_rest start woken supply lawful.kept begins
 
   -- the first recovery answers the ring
-  pub wakes : recovered (format woken) woken.reading ≡ Ok ring
+  pub wakes : recover (format woken) woken.reading ≡ Ok ring
   wakes = rw same (recovers_answer f start.reading lawful.recovers)
 
-  pub not_denied : (fault : RingFault) → Err fault ≡ recovered (format woken) woken.reading → ⊥
+  pub not_denied : (fault : RingFault) → Err fault ≡ recover (format woken) woken.reading → ⊥
   not_denied fault e =
       let n : ◌≡◌ {A = Result Ring RingFault} (Err fault) (Ok ring) = e ∙ wakes in
       cc
@@ -55,7 +55,7 @@ module _ (start woken : Meaning) (supply : ℕ) (lawful : LawfulReservation (for
         numbers = rw same lawful.numbers;
       }
 
-  module _ (r' : Ring) (after end : Meaning) (answer : Result Reserved RingFault) (found : Result Ring RingFault) (ended : Ended f 7 (record { 0 = 3 }) woken answer r' after) (ends : Cut after 1000 end) (finds : found ≡ recovered (format end) end.reading) where
+  module _ (r' : Ring) (after end : Meaning) (answer : Result Reserved RingFault) (found : Result Ring RingFault) (ended : Ended f 7 (record { 0 = 3 }) woken answer r' after) (ends : Cut after 1000 end) (finds : found ≡ recover (format end) end.reading) where
     left : Left f 7 3 woken.reading end.reading
     left = cut_within f 7 3 woken after end 1000 lawful_woken ended.goes ends
 
@@ -75,16 +75,16 @@ module _ (start woken : Meaning) (supply : ℕ) (lawful : LawfulReservation (for
               (subst (λ (x : List (List ℕ)). Went woken (performed f (plan f 7 7 3 x) woken.supply) after) same ended.goes);
           ends = ends;
           last = last;
-          finds = finds ∙ ap (λ n. recovered (sized n) end.reading) (sym left.recovers.sized.count);
+          finds = finds ∙ ap (λ n. recover (sized n) end.reading) (sym left.recovers.sized.count);
           leaves = rw same at left;
         }
 
   -- the calls one after the other
   pub stopped :
       (r r' : Ring) (after end : Meaning) (answer : Result Reserved RingFault) (found : Result Ring RingFault) →
-      Ok r ≡ recovered (format woken) woken.reading →
+      Ok r ≡ recover (format woken) woken.reading →
       (Agrees r woken → refusal r.format r.known.top.0 7 (record { 0 = 3 }) ≡ None → Ended r.format 7 (record { 0 = 3 }) woken answer r' after) →
-      Cut after 1000 end → found ≡ recovered (format end) end.reading →
+      Cut after 1000 end → found ≡ recover (format end) end.reading →
       (cuts : ℕ → ℕ → Meaning → Meaning → Type 0) (tear : ℕ) → cuts 0 supply start woken → cuts tear 1000 after end → Stops cuts start supply tear (series_told answer) found end
   stopped r r' after end answer found told reserves ends finds cuts tear first last =
       let is : r ≡ ring = grind (arith, told ∙ wakes) in

@@ -1,17 +1,17 @@
-// A ring that closes, and its carries: seven live records are in the way of one reservation, and the current fails at each
-// of its sixteen writes and flushes in turn.
+// A ring that closes, and its carries: seven live records are in the way of one reservation, and the current fails at
+// each of its sixteen writes and flushes in turn.
 #![tactic(auto)]
 
 ghost use Rattle.std.specs.Prelude.{◌≡◌, Some, IfOk, IsOkAnd, flat_map};
 ghost use Rattle.disk.specs.Blank.{WithoutRecords};
 ghost use Rattle.ring.specs.Left.{LawfulReservation};
 ghost use Rattle.ring.specs.Ring.{Agrees};
-ghost use Rattle.carries.specs.Texts.{work_text, answer_text, end_text, recovered_text};
+ghost use Rattle.carries.specs.Texts.{answer_text, end_text, recovered_text};
 ghost use Rattle.carries.specs.Stops.{format, series_told, Filled, CutBy, Stops, FilledAndStopped};
 
 use disk::{Disk, HoldBack, LatestWrite, MemoryDisk, WriteThrough};
 use record::{Rank, SECTOR_BYTES};
-use ring::{Blocks, Reserved, Ring, RingFault, Work};
+use ring::{Blocks, Reserved, Ring, RingFault};
 use std::{fmt, io};
 
 const SECTORS: usize = 10;
@@ -36,37 +36,13 @@ struct Recovered(Result<Ring, RingFault>);
 #[derive(Clone, Copy)]
 struct Ends([Rank; 8]);
 
-// What was being written when the current failed.
-#[derive(Clone, Copy)]
-struct Doing(Work);
-
-impl fmt::Display for Doing {
-    ghost output = { λ doing. Some (work_text doing.0) };
-
-    fn fmt<W: fmt::Write>(&self, f: &mut fmt::Formatter<W>) -> fmt::Result {
-        match self.0 {
-            Work::Carry(series) => write!(f, "carry of {series} "),
-            Work::Reservation(_) => write!(f, "reservation"),
-        }
-    }
-}
-
-// Blanks after the shorter texts keep what follows in one column.
 impl fmt::Display for Answer {
     ghost output = { λ answer. Some (answer_text answer.0) };
 
     fn fmt<W: fmt::Write>(&self, f: &mut fmt::Formatter<W>) -> fmt::Result {
         match self.0 {
-            Ok(series) => write!(f, "series {series} has reserved                     "),
-            Err(RingFault::Interrupted(stopped)) => match stopped.fault.sector_told() {
-                Some(sector) => {
-                    let operation = stopped.fault.operation;
-                    let doing = Doing(stopped.work);
-                    write!(f, "dark at the {operation} of sector {sector}, {doing}")
-                }
-                None => write!(f, "denied with {}", stopped.fault.number()),
-            },
-            Err(fault) => write!(f, "denied with {}", fault.number()),
+            Ok(series) => write!(f, "series {series} has reserved"),
+            Err(fault) => write!(f, "{fault}"),
         }
     }
 }
@@ -93,14 +69,16 @@ impl fmt::Display for Recovered {
                 let ends = Ends(ring.ends());
                 write!(f, "top record {top:>2}, ends{ends}")
             }
-            Err(fault) => write!(f, "denied with {}", fault.number()),
+            Err(fault) => write!(f, "{fault}"),
         }
     }
 }
 
 // The nine reservations that fill the ring: one of each series, and a second one of series 7.
 fn fill<D: Disk>(disk: &mut D, ring: &mut Ring) -> Result<(), RingFault>
-    ensures { Agrees ring.old (D.meaning disk.old) → IfOk result (λ _. Filled ring.old.format (D.meaning disk.old) 9 (D.meaning disk.new)) }
+    ensures { let m = D.meaning disk.old in
+        Agrees ring.old m →
+        IfOk result (λ _. Filled ring.old.format m 9 (D.meaning disk.new)) }
 {
     let mut blocks = ring.blocks();
     for series in 0..8u8 {
@@ -126,7 +104,10 @@ fn told(answer: Result<Reserved, RingFault>, mut blocks: Blocks) -> Answer
 
 // The current fails and comes back with so much supply; then the reservation with seven carries, a cut, and recovery.
 fn stop<D: Disk>(disk: &mut D, supply: u64, tear: u64) -> Result<(Answer, Recovered), RingFault>
-    ensures { LawfulReservation (format (D.meaning disk.old)) 7 3 (D.meaning disk.old) → IsOkAnd result (λ told. Stops (CutBy D.moves D.meaning) (D.meaning disk.old) supply tear told.0.0 told.1.0 (D.meaning disk.new)) }
+    ensures { let m = D.meaning disk.old in
+        let cuts = CutBy D.moves D.meaning in
+        LawfulReservation (format m) 7 3 m → IsOkAnd result (λ told.
+        Stops cuts m supply tear told.0.0 told.1.0 (D.meaning disk.new)) }
 {
     disk.cut(0, supply);
     let mut ring = Ring::recover(disk, TAG, TOP)?;
@@ -143,7 +124,10 @@ fn fill_and_stop<D: Disk>(
     supply: u64,
     tear: u64,
 ) -> Result<(Answer, Recovered), RingFault>
-    ensures { WithoutRecords (D.meaning disk.old) → IfOk result (λ told. FilledAndStopped (CutBy D.moves D.meaning) (D.meaning disk.old) supply tear told.0.0 told.1.0 (D.meaning disk.new)) }
+    ensures { let m = D.meaning disk.old in
+        let cuts = CutBy D.moves D.meaning in
+        WithoutRecords m → IfOk result (λ told.
+        FilledAndStopped cuts m supply tear told.0.0 told.1.0 (D.meaning disk.new)) }
 {
     let mut ring = Ring::recover(disk, TAG, TOP)?;
     fill(disk, &mut ring)?;
@@ -159,7 +143,7 @@ fn stop_at<H: HoldBack>(rt: &HostRuntime, supply: u64, tear: u64) -> io::Result<
     let Ok((answer, recovered)) = fill_and_stop(&mut disk, supply, tear) else {
         return println!(rt; "the ring did not fill");
     };
-    println!(rt; "supply {supply:>2} | {answer} | tear {tear:>2}: {recovered}")
+    println!(rt; "supply {supply:>2}, tear {tear:>2} | {recovered} | {answer}")
 }
 
 fn main(rt: HostRuntime) -> io::Result<()> {

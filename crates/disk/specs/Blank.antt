@@ -1,6 +1,7 @@
 -- Disks without records, and disks that are cleared.
 use Rattle.std.specs.Prelude.{◌≡◌, ℕ, ◌*◌, ◌<◌, ◌≤◌, false, List, [], length, replicate}
 use Rattle.record.specs.Sector.{sound}
+use Rattle.record.specs.declared.sector.TheConstants.{SECTOR_BYTES}
 use Rattle.disk.specs.Meaning.{Meaning, at}
 use Rattle.disk.specs.declared.size.TheConstants.{LEAST_SECTORS, MOST_SECTORS}
 
@@ -18,7 +19,7 @@ pub record WithoutRecords (m : Meaning) : Type 0 where
 
 -- so many sectors of 32 zero bytes
 abbrev pub zeros : ℕ → List (List ℕ)
-zeros sectors = replicate sectors (replicate 32 0)
+zeros sectors = replicate sectors (replicate SECTOR_BYTES 0)
 
 -- a disk of them that keeps what it reads, with nothing past its last sector
 abbrev pub cleared : ℕ → ℕ → Meaning
@@ -27,6 +28,6 @@ cleared sectors supply =
 
 -- a disk that is made without records: its memory is all zero bytes, and it means cleared sectors with the supply given
 pub record BlankDisk (sectors supply : ℕ) (memory : List ℕ) (m : Meaning) : Type 0 where
-  pub memory_zero : memory ≡ replicate (32 * sectors) 0
+  pub memory_zero : memory ≡ replicate (SECTOR_BYTES * sectors) 0
   pub means : m ≡ cleared sectors supply
   pub without : WithoutRecords m

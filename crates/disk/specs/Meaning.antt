@@ -2,6 +2,7 @@
 use Rattle.std.specs.Prelude.{◌≡◌, ℕ, ◌+◌, false, if◌then◌else◌, ◌⊎◌, List, [], length, Ok, Err, Result, ◌==◌, nat_lt, slice_index_or, slice_set}
 use Rattle.std.specs.List.{AllByRecursion}
 use Rattle.record.specs.Sector.{sound}
+use Rattle.record.specs.declared.sector.TheConstants.{SECTOR_BYTES}
 use Rattle.disk.specs.declared.fault.Cause.{Cause}
 use Rattle.disk.specs.declared.fault.Cause.TheVariants.{NoSector, Dark}
 use Rattle.disk.specs.declared.fault.DiskFault.{DiskFault}
@@ -26,7 +27,7 @@ count m = length m.reading
 
 -- a disk has sectors of 32 bytes, and keeps as many as are read
 pub record Shaped (m : Meaning) : Type 0 where
-  pub bytes : AllByRecursion (λ sector. length sector ≡ 32) m.reading
+  pub bytes : AllByRecursion (λ sector. length sector ≡ SECTOR_BYTES) m.reading
   pub keeps : length m.kept ≡ length m.reading
 
 -- a denied operation on sector i

@@ -6,19 +6,21 @@ use Rattle.disk.specs.declared.size.TheConstants.{LEAST_SECTORS, MOST_SECTORS}
 -- the first n sectors of a memory
 unfoldable pub chunks : ℕ → List ℕ → List (List ℕ)
 chunks zero memory = []
-chunks (suc n) memory = take 32 memory ∷ chunks n (drop 32 memory)
+chunks (suc n) memory = take SECTOR_BYTES memory ∷ chunks n (drop SECTOR_BYTES memory)
 
 -- all whole sectors
 unfoldable pub sectors : List ℕ → List (List ℕ)
-sectors memory = chunks (length memory / 32) memory
+sectors memory = chunks (length memory / SECTOR_BYTES) memory
 
 -- the bytes past the last whole sector
 unfoldable pub spare : List ℕ → List ℕ
-spare memory = drop (32 * (length memory / 32)) memory
+spare memory = drop (SECTOR_BYTES * (length memory / SECTOR_BYTES)) memory
 
 -- bytes stored over sector i, and nothing beside them
 unfoldable pub stored : List ℕ → ℕ → List ℕ → List ℕ
-stored memory i bytes = take (32 * i) memory ++ (bytes ++ drop (32 * i + 32) memory)
+stored memory i bytes =
+    take (SECTOR_BYTES * i) memory
+    ++ (bytes ++ drop (SECTOR_BYTES * i + SECTOR_BYTES) memory)
 
 -- a disk has 10 to 2,048 sectors
 abbrev pub IsSize : ℕ → Type 0

@@ -14,7 +14,8 @@ use Rattle.history.proofs.Series.{Series, Label, Counted, blocks}
 -- the identifier of a rank from next on is the kind's for this rank and no other, and above all that were given before
 pub rises :
     (k : Numbering) → LawfulKind k → (start : Meaning) (past : List Event) (s end : ℕ) (reading : Reading) → s < 8 → HasFloor k reading →
-    Series k start past s end → rank_of k start s reading past ≤ k.top.0 → Rising k start s reading past (k.identifier s (record { 0 = rank_of k start s reading past }))
+    Series k start past s end → rank_of k start s reading past ≤ k.top.0 →
+    Rising k start s reading past (k.identifier s (record { 0 = rank_of k start s reading past }))
 rises k lawful start past s end reading below has inv up_to =
     let rank : ℕ = rank_of k start s reading past in
     record {
@@ -50,7 +51,9 @@ pub record Covered (B rank : ℕ) (ranges : List Range) : Type 0 where
 covered_older : (B rank : ℕ) (r : Range) (older : List Range) → rank < r.first → Covered B rank older → Covered B rank (r ∷ older)
 covered_older B rank r older before c = record { lo = c.lo; below = c.below; sum = rw (lt-leb r.first rank before) c.sum }
 
-covered_here : (B rank lo : ℕ) (r : Range) (older : List Range) → r.first ≤ rank → rank < r.end → lo < B → rank ≡ length older * B + lo → Covered B rank (r ∷ older)
+covered_here :
+    (B rank lo : ℕ) (r : Range) (older : List Range) → r.first ≤ rank → rank < r.end → lo < B → rank ≡ length older * B + lo →
+    Covered B rank (r ∷ older)
 covered_here B rank lo r older from inside small sum =
     record { lo = lo; below = small; sum = rw (le-leb r.first rank from, lt-ltb rank r.end inside) sum }
 

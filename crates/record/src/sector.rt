@@ -1,5 +1,5 @@
 // A record and the 32 bytes of its sector.
-ghost use Rattle.std.specs.Prelude.{◌≡◌, ◌+◌, ◌≤◌, ◌&&◌, length, replicate, ◌==◌};
+ghost use Rattle.std.specs.Prelude.{◌≡◌, ◌+◌, ◌^◌, ◌≤◌, ◌&&◌, length, replicate, ◌==◌};
 ghost use Rattle.record.specs.Sector.{sound, lawful, little, bytes_at, parts, told_by};
 ghost use Rattle.record.specs.Sector.{content, encoded, ReadsBack, AlwaysBlank};
 
@@ -35,6 +35,12 @@ pub enum Content {
 
 // The greatest sequence number that a record may have.
 pub const LAST_SEQUENCE: u64 = 0x3fff_ffff_ffff_ffff;
+
+// What these numbers are: 32 bytes, and the sequence numbers below 2^62.
+pub fn limits()
+    ensures { (SECTOR_BYTES ≡ 32) × (LAST_SEQUENCE + 1 ≡ 2 ^ 62) }
+{
+}
 
 // Whether the last four bytes are the checksum of the others.
 pub fn is_sound(sector: &[u8; SECTOR_BYTES]) -> bool

@@ -11,8 +11,8 @@ use Rattle.disk.specs.declared.fault.Operation.TheVariants.{Write, Flush}
 use Rattle.ring.specs.Faults.{with_work}
 use Rattle.ring.specs.Operations.{put, settle, Writes}
 use Rattle.ring.specs.Ring.{carry_of, known_gap, next_of, with_noted, Step}
-use Rattle.ring.specs.Runs.{looked, carry_in, known_carrying, known_reserving, Appends, Runs, RunsOn, RunsShort, RunsClear, RunsUnlessRefused, RunsStopped, RunsWritten, Tries, unread, carries, stops, reserves}
-use Rattle.ring.specs.Search.{admitted}
+use Rattle.ring.specs.Runs.{look, carry_in, known_carry, known_reservation, Appends, Runs, RunsOn, RunsShort, RunsClear, RunsUnlessRefused, RunsStopped, RunsWritten, Tries, unread, carries, stops, reserves}
+use Rattle.ring.specs.Search.{admit}
 use Rattle.ring.specs.declared.fault.RingFault.{RingFault}
 use Rattle.ring.specs.declared.fault.RingFault.TheVariants.{Disk, Interrupted as Stopped}
 use Rattle.ring.specs.declared.fault.Interrupted.{Interrupted}
@@ -23,31 +23,31 @@ use Rattle.ring.specs.declared.ring.Ring.{Ring}
 use Rattle.ring.specs.declared.token.Reserved.{Reserved}
 use Rattle.ring.specs.declared.token.Unconfirmed.{Unconfirmed}
 use Rattle.ring.specs.declared.token.Written.{Written}
-use Rattle.ring.specs.Token.{confirmed}
+use Rattle.ring.specs.Token.{confirm}
 use Rattle.ring.proofs.Reserves.{work_and_fault}
 
 pub found_to_carry :
-    (r : Ring) (reading : List (List ℕ)) (s start : ℕ) (c : Content) (x : Option Record) → Ok c ≡ looked r reading →
-    x ≡ carry_of r.known s start c → carry_in r s start (looked r reading) ≡ Ok x
+    (r : Ring) (reading : List (List ℕ)) (s start : ℕ) (c : Content) (x : Option Record) → Ok c ≡ look r reading →
+    x ≡ carry_of r.known s start c → carry_in r s start (look r reading) ≡ Ok x
 found_to_carry r reading s start c x look tells = grind arith
 
 not_found :
-    (r : Ring) (reading : List (List ℕ)) (s start : ℕ) (fault : DiskFault) → Err fault ≡ looked r reading →
-    carry_in r s start (looked r reading) ≡ Err fault
+    (r : Ring) (reading : List (List ℕ)) (s start : ℕ) (fault : DiskFault) → Err fault ≡ look r reading →
+    carry_in r s start (look r reading) ≡ Err fault
 not_found r reading s start fault look = grind arith
 
 -- the search has come from one ring and disk to others
 module _ {D : Type 0} (moves : Moves D) (meaning : D → Meaning) (s start : ℕ) (r : Ring) (d : D) (between : Ring) (d' : D) (on : RunsOn moves meaning s start r d between d') where
-  pub turn_unread : (fault : DiskFault) → Err fault ≡ looked between (meaning d').reading → RunsShort moves meaning s start r d (Disk fault) between d'
+  pub turn_unread : (fault : DiskFault) → Err fault ≡ look between (meaning d').reading → RunsShort moves meaning s start r d (Disk fault) between d'
   turn_unread fault look value same =
       on value same _ _ _ (unread (rw same (not_found between (meaning d').reading s start fault look)))
 
-  module _ (q : Record) (due : carry_in between s start (looked between (meaning d').reading) ≡ Ok (Some q)) (r'' : Ring) (d'' : D) where
-    pub turn_carries : Appends moves meaning between d' (known_carrying between q) (Ok tt) r'' d'' → RunsOn moves meaning s start r d r'' d''
+  module _ (q : Record) (due : carry_in between s start (look between (meaning d').reading) ≡ Ok (Some q)) (r'' : Ring) (d'' : D) where
+    pub turn_carries : Appends moves meaning between d' (known_carry between q) (Ok tt) r'' d'' → RunsOn moves meaning s start r d r'' d''
     turn_carries appends value same answer r' after runs = on value same answer r' after (carries q (rw same due) appends runs)
 
     pub turn_stopped :
-        (x : Interrupted) → x.work ≡ Carry q.series → Appends moves meaning between d' (known_carrying between q) (Err x.fault) r'' d'' →
+        (x : Interrupted) → x.work ≡ Carry q.series → Appends moves meaning between d' (known_carry between q) (Err x.fault) r'' d'' →
         RunsShort moves meaning s start r d (Stopped x) r'' d''
     turn_stopped x work appends value same =
         subst (λ (w : Work). Runs moves meaning value start r d (Err (Stopped (record { work = w; fault = x.fault }))) r'' d'') (sym work)
@@ -84,16 +84,16 @@ module _ {D : Type 0} (moves : Moves D) (meaning : D → Meaning) (claim : Claim
   write_goes done made writes value series end answer after tries =
       ends.on value series _ r'' after
       (reserves answer (rw series ends.clear)
-      (appended moves meaning between d' (known_reserving between value) r'' d''
+      (appended moves meaning between d' (known_reservation between value) r'' d''
       (rw (series, end) (record { answers = not_stopped (Reservation claim.series) done _ made; does = writes.0; goes = goes }))
       (rw (series, end) writes.1) answer after tries))
 
 confirmed_well :
-    (w : Written) (answer : Result (Unit {0}) DiskFault) (reserved : Reserved) → Ok reserved ≡ confirmed w answer →
+    (w : Written) (answer : Result (Unit {0}) DiskFault) (reserved : Reserved) → Ok reserved ≡ confirm w answer →
     (answer ≡ Ok tt) × (reserved ≡ record { series = w.claim.series; start = w.start; end = w.claim.end })
 confirmed_well w answer reserved e = grind arith
 
-confirmed_ill : (w : Written) (answer : Result (Unit {0}) DiskFault) (u : Unconfirmed) → Err u ≡ confirmed w answer → (answer ≡ Err u.fault) × (u.written ≡ w)
+confirmed_ill : (w : Written) (answer : Result (Unit {0}) DiskFault) (u : Unconfirmed) → Err u ≡ confirm w answer → (answer ≡ Err u.fault) × (u.written ≡ w)
 confirmed_ill w answer u e = grind arith
 
 -- the reservation is written, and its flush is tried
@@ -102,14 +102,14 @@ module _ {D : Type 0} (moves : Moves D) (meaning : D → Meaning) (claim : Claim
   value = record { series = claim.series; start = first; end = claim.end }
 
   pub flush_goes :
-      (reserved : Reserved) → Ok reserved ≡ confirmed w (answer_of Flush (meaning d') w.sector) → Flushed (meaning d') (meaning d'') →
+      (reserved : Reserved) → Ok reserved ≡ confirm w (answer_of Flush (meaning d') w.sector) → Flushed (meaning d') (meaning d'') →
       Runs moves meaning value start r d (Ok reserved) r' d''
   flush_goes reserved e flushed =
       let told = confirmed_well w _ reserved e in
       rw (told.1, claims, starts) (runs value refl refl (Ok tt) d'' (record { answers = told.0; does = flushed; goes = goes }))
 
   pub flush_stops :
-      (u : Unconfirmed) (x : Interrupted) → Err u ≡ confirmed w (answer_of Flush (meaning d') w.sector) → meaning d'' ≡ meaning d' →
+      (u : Unconfirmed) (x : Interrupted) → Err u ≡ confirm w (answer_of Flush (meaning d') w.sector) → meaning d'' ≡ meaning d' →
       x ≡ record { work = Reservation u.written.claim.series; fault = u.fault } →
       Runs moves meaning value start r d (Err (Stopped x)) r' d''
   flush_stops u x e same given =
@@ -126,7 +126,7 @@ module _ {D : Type 0} (moves : Moves D) (meaning : D → Meaning) (value : Reser
   runs_unrefused (Some fault) is answer r' d' runs = absurd (grind arith)
 
   pub runs_refused :
-      {A : Type 0} (refused : Option RingFault) (asked : A) (fault : RingFault) → Err fault ≡ admitted asked refused →
+      {A : Type 0} (refused : Option RingFault) (asked : A) (fault : RingFault) → Err fault ≡ admit asked refused →
       RunsUnlessRefused moves meaning refused value r d (Err fault) r d
   unfolding RunsUnlessRefused
   runs_refused None asked fault is = absurd (grind arith)

@@ -1,20 +1,21 @@
 -- A record that has to be carried: it is old, it may be written anew, and then fewer are left.
-use Rattle.std.proofs.Common.{◌≡◌, ℕ, ◌+◌, ◌^◌, ◌<◌, ◌≤◌, List, length, set, Some, sym, ap, ◌∙◌, arith}
+use Rattle.std.proofs.Common.{◌≡◌, ℕ, ◌+◌, ◌≤◌, List, length, set, Some, sym, ap, ◌∙◌, arith}
 use Rattle.std.proofs.lemmas.List.FromFn.{length-map-range_with_len}
+use Rattle.record.specs.declared.sector.TheConstants.{LAST_SEQUENCE}
 use Rattle.record.specs.declared.sector.Format.{Format}
 use Rattle.record.specs.declared.sector.Record.{Record}
-use Rattle.ring.specs.Ring.{top, live, beyond, carried, next, known, live_among, live_of, Sized}
+use Rattle.ring.specs.Ring.{top, live, beyond, next_carry, next, known, live_among, live_of, Sized}
 use Rattle.ring.specs.declared.known.Live.{Live}
 use Rattle.ring.proofs.Knows.{left, knows_live, carried_is, left-set}
 use Rattle.ring.proofs.Slots.{Placed, placed}
 use Rattle.ring.proofs.Writes.{Clear, Writable, old_beyond}
 
 -- the sector after the gap holds it, so no live record of another series
-pub carry_clear : (f : Format) (reading : List (List ℕ)) (s : ℕ) (q : Record) → carried f reading s ≡ Some q → Clear f reading q.series
+pub carry_clear : (f : Format) (reading : List (List ℕ)) (s : ℕ) (q : Record) → next_carry f reading s ≡ Some q → Clear f reading q.series
 carry_clear f reading s q e o at-beyond ne = grind arith
 
 -- in a search that began with the top at start, and has carried at most as many records as other series were left then
-module _ (f : Format) (reading : List (List ℕ)) (sized : Sized f reading) (lives : List Live) (knows : lives ≡ (known f reading).lives) (s start : ℕ) (since : start ≤ top f reading) (few : top f reading + left start s 0 lives ≤ start + 7) (numbers : start + 8 < 2 ^ 62) (q : Record) (e : carried f reading s ≡ Some q) where
+module _ (f : Format) (reading : List (List ℕ)) (sized : Sized f reading) (lives : List Live) (knows : lives ≡ (known f reading).lives) (s start : ℕ) (since : start ≤ top f reading) (few : top f reading + left start s 0 lives ≤ start + 7) (numbers : start + 8 ≤ LAST_SEQUENCE) (q : Record) (e : next_carry f reading s ≡ Some q) where
   in_place : Placed f (beyond f reading) q
   in_place = placed f reading (beyond f reading) q (carried_is f reading s q e).0
 

@@ -1,6 +1,7 @@
 -- The operations that are tried, as a disk's own relations take it over.
-use Rattle.std.proofs.Common.{◌≡◌, ℕ, ◌+◌, ◌-◌, ◌^◌, ◌<◌, List, [], ◌∷◌, Some, None, Ok, Err, Result, sym, ap, ◌∙◌, subst, ⊎_elim, arith}
+use Rattle.std.proofs.Common.{◌≤◌, ◌≡◌, ℕ, ◌+◌, ◌-◌, List, [], ◌∷◌, Some, None, Ok, Err, Result, sym, ap, ◌∙◌, subst, ⊎_elim, arith}
 use Rattle.std.proofs.lemmas.Grind.{common_steps}
+use Rattle.record.specs.declared.sector.TheConstants.{LAST_SEQUENCE}
 use Rattle.record.specs.Sector.{encoded}
 use Rattle.record.specs.declared.sector.Format.{Format}
 use Rattle.record.specs.declared.sector.Record.{Record}
@@ -9,7 +10,7 @@ use Rattle.disk.specs.Moves.{Moves}
 use Rattle.disk.specs.declared.fault.DiskFault.{DiskFault}
 use Rattle.disk.specs.declared.fault.Operation.TheVariants.{Write}
 use Rattle.ring.specs.Operations.{Op, put, settle, tried, write_and_flush, Chain, Writes, Denied}
-use Rattle.ring.specs.Ring.{top, carried, gap, next, reserving, plan, known_gap, next_of, Step}
+use Rattle.ring.specs.Ring.{top, next_carry, gap, next, reservation_step, plan, known_gap, next_of, Step}
 use Rattle.ring.specs.Search.{GoesOn, Tried}
 use Rattle.ring.specs.declared.ring.Ring.{Ring}
 use Rattle.ring.proofs.Searches.{Searching, plan-ends, knows_gap, knows_next, tried_on, tried_at_write, tried_at_flush}
@@ -26,19 +27,19 @@ chain_on moves d d' after i bytes ops both rest =
     (both.0, both.1, (both.2.0, both.2.1, subst (λ x. Chain moves x ops after) both.2.2 rest))
 
 -- one turn of the search, by the ring's own format
-module _ {D : Type 0} (moves : Moves D) (meaning : D → Meaning) (s : ℕ) (start : D) (r : Ring) (d : D) (search : Searching r.format s (meaning start) r (meaning d)) (numbers : top r.format (meaning start).reading + 8 < 2 ^ 62) (rest : GoesOn moves meaning r.format s start (steps_left r.format s (meaning start) (meaning d)) d) where
+module _ {D : Type 0} (moves : Moves D) (meaning : D → Meaning) (s : ℕ) (start : D) (r : Ring) (d : D) (search : Searching r.format s (meaning start) r (meaning d)) (numbers : top r.format (meaning start).reading + 8 ≤ LAST_SEQUENCE) (rest : GoesOn moves meaning r.format s start (steps_left r.format s (meaning start) (meaning d)) d) where
   abbrev m : Meaning
   m = meaning d
 
-  low : top r.format m.reading < 2 ^ 62
+  low : top r.format m.reading ≤ LAST_SEQUENCE
   low = omega (arith, search.few)
 
-  ends : carried r.format m.reading s ≡ None → GoesOn moves meaning r.format s start (λ end. reserving r.format m.reading s end ∷ []) d
+  ends : next_carry r.format m.reading s ≡ None → GoesOn moves meaning r.format s start (λ end. reservation_step r.format m.reading s end ∷ []) d
   ends e end after chain =
       rest end after
       (subst (λ (steps : List Step). Chain moves d (tried r.format steps m.supply) after) (sym (plan-ends r.format _ s end m.reading e)) chain)
 
-  module _ (q : Record) (e : carried r.format m.reading s ≡ Some q) where
+  module _ (q : Record) (e : next_carry r.format m.reading s ≡ Some q) where
     abbrev bytes : List ℕ
     bytes = encoded r.format.tag (next_of r q.series q.end)
 
@@ -80,23 +81,23 @@ module _ {D : Type 0} (moves : Moves D) (meaning : D → Meaning) (s : ℕ) (sta
           denied)
 
 -- the same by the format that the search began with
-module _ {D : Type 0} (moves : Moves D) (meaning : D → Meaning) (f : Format) (s : ℕ) (start : D) (r : Ring) (d : D) (search : Searching f s (meaning start) r (meaning d)) (numbers : top f (meaning start).reading + 8 < 2 ^ 62) (rest : GoesOn moves meaning f s start (steps_left f s (meaning start) (meaning d)) d) where
+module _ {D : Type 0} (moves : Moves D) (meaning : D → Meaning) (f : Format) (s : ℕ) (start : D) (r : Ring) (d : D) (search : Searching f s (meaning start) r (meaning d)) (numbers : top f (meaning start).reading + 8 ≤ LAST_SEQUENCE) (rest : GoesOn moves meaning f s start (steps_left f s (meaning start) (meaning d)) d) where
   own : Searching r.format s (meaning start) r (meaning d)
   own = subst (λ (x : Format). Searching x s (meaning start) r (meaning d)) (sym search.format) search
 
-  own_numbers : top r.format (meaning start).reading + 8 < 2 ^ 62
-  own_numbers = subst (λ (x : Format). top x (meaning start).reading + 8 < 2 ^ 62) (sym search.format) numbers
+  own_numbers : top r.format (meaning start).reading + 8 ≤ LAST_SEQUENCE
+  own_numbers = subst (λ (x : Format). top x (meaning start).reading + 8 ≤ LAST_SEQUENCE) (sym search.format) numbers
 
   own_rest : GoesOn moves meaning r.format s start (steps_left r.format s (meaning start) (meaning d)) d
   own_rest =
       subst (λ (x : Format). GoesOn moves meaning x s start (steps_left x s (meaning start) (meaning d)) d) (sym search.format) rest
 
-  pub chain_ends : carried r.format (meaning d).reading s ≡ None → GoesOn moves meaning f s start (λ end. reserving f (meaning d).reading s end ∷ []) d
+  pub chain_ends : next_carry r.format (meaning d).reading s ≡ None → GoesOn moves meaning f s start (λ end. reservation_step f (meaning d).reading s end ∷ []) d
   chain_ends e =
-      subst (λ (x : Format). GoesOn moves meaning x s start (λ end. reserving x (meaning d).reading s end ∷ []) d) search.format
+      subst (λ (x : Format). GoesOn moves meaning x s start (λ end. reservation_step x (meaning d).reading s end ∷ []) d) search.format
       (ends moves meaning s start r d own own_numbers own_rest e)
 
-  module _ (q : Record) (e : carried r.format (meaning d).reading s ≡ Some q) (d' : D) (chain : Chain moves d (write_and_flush (known_gap r) (encoded r.format.tag (next_of r q.series q.end)) (answer_of Write (meaning d) (known_gap r))) d') (r' : Ring) where
+  module _ (q : Record) (e : next_carry r.format (meaning d).reading s ≡ Some q) (d' : D) (chain : Chain moves d (write_and_flush (known_gap r) (encoded r.format.tag (next_of r q.series q.end)) (answer_of Write (meaning d) (known_gap r))) d') (r' : Ring) where
     pub chain_goes_on :
         (between : Meaning) → Writes r (meaning d) q.series q.end r' between → Flushed between (meaning d') →
         GoesOn moves meaning f s start (steps_left f s (meaning start) (meaning d')) d'

@@ -10,7 +10,7 @@ use Rattle.record.specs.declared.sector.Content.TheVariants.{Blank, Foreign, Rec
 use Rattle.record.specs.declared.sector.Format.{Format}
 use Rattle.record.specs.declared.sector.Record.{Record}
 use Rattle.disk.specs.Meaning.{at}
-use Rattle.ring.specs.Ring.{record_in, slot, top, none, live_of, live, gap, beyond, is_live, to_carry, carried, next, with_record, noted, known, live_among, carry_of, is_foreign, Native, Sized, Free}
+use Rattle.ring.specs.Ring.{record_in, slot, top, none, live_of, live, gap, beyond, is_live, to_carry, next_carry, next, with_record, note, known, live_among, carry_of, is_foreign, Native, Sized, Free}
 use Rattle.ring.specs.declared.known.Live.{Live}
 use Rattle.ring.proofs.Slots.{placed, slot-holds}
 use Rattle.ring.proofs.Writes.{Clear, Writable, gap_lies, old_beyond, content-written, top-written, live_written, live_other, same_length}
@@ -47,7 +47,7 @@ module _ (f : Format) (reading : List (List ℕ)) (sized : Sized f reading) (s e
       ∙ sym (live_other f reading sized s end w free k ne))
       (cases_eq k s))
 
-  pub known_written : Free f reading → noted (known f reading) new ≡ known f (with_record f reading new)
+  pub known_written : Free f reading → note (known f reading) new ≡ known f (with_record f reading new)
   known_written free =
       let a = top-written f reading sized s end w in
       let b = lives_written free in
@@ -79,18 +79,18 @@ module _ (f : Format) (reading : List (List ℕ)) (sized : Sized f reading) (s s
       let lives = knows_live f reading r.series p.series in
       rw (series, old, lives, and-true (is_live f reading r)) refl
 
-  pub carry_is : carry_of (known f reading) s start (content f (beyond f reading) (at reading (beyond f reading))) ≡ carried f reading s
+  pub carry_is : carry_of (known f reading) s start (content f (beyond f reading) (at reading (beyond f reading))) ≡ next_carry f reading s
   unfolding slot
   carry_is = finds (content f (beyond f reading) (at reading (beyond f reading))) refl
 
 -- what is carried is a live record of another series
 pub carried_is :
-    (f : Format) (reading : List (List ℕ)) (s : ℕ) (r : Record) → carried f reading s ≡ Some r →
+    (f : Format) (reading : List (List ℕ)) (s : ℕ) (r : Record) → next_carry f reading s ≡ Some r →
     (slot f reading (beyond f reading) ≡ Some r) × (r.series ≢ s) × (r.sequence.0 ≡ (live f reading r.series).number.0)
 carried_is f reading s r e = grind arith
 
 -- and where nothing is, the sector after the gap is clear
-pub clear_from : (f : Format) (reading : List (List ℕ)) (s : ℕ) → carried f reading s ≡ None → Clear f reading s
+pub clear_from : (f : Format) (reading : List (List ℕ)) (s : ℕ) → next_carry f reading s ≡ None → Clear f reading s
 clear_from f reading s e q at-beyond ne = grind arith
 
 -- how many are left to carry

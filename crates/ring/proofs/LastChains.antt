@@ -1,6 +1,7 @@
 -- The last write of a reservation, as a disk's own relations take it over.
-use Rattle.std.proofs.Common.{◌≡◌, ℕ, zero, suc, ◌+◌, ◌^◌, ◌<◌, List, [], ◌∷◌, Err, sym, refl, ap, ◌∙◌, subst, arith}
+use Rattle.std.proofs.Common.{◌≤◌, ◌≡◌, ℕ, zero, suc, ◌+◌, ◌<◌, List, [], ◌∷◌, Err, sym, refl, ap, ◌∙◌, subst, arith}
 use Rattle.std.proofs.lemmas.Grind.{common_steps}
+use Rattle.record.specs.declared.sector.TheConstants.{LAST_SEQUENCE}
 use Rattle.record.specs.Sector.{encoded}
 use Rattle.record.specs.declared.numbers.Rank.{Rank}
 use Rattle.record.specs.declared.sector.Format.{Format}
@@ -10,8 +11,8 @@ use Rattle.disk.specs.Moves.{Moves}
 use Rattle.disk.specs.declared.fault.DiskFault.{DiskFault}
 use Rattle.disk.specs.declared.fault.Operation.TheVariants.{Write}
 use Rattle.ring.specs.Operations.{Op, put, settle, tried, Chain, Writes}
-use Rattle.ring.specs.Ring.{top, gap, reserving, known_gap, next_of, Step}
-use Rattle.ring.specs.Search.{Cleared, GoesOn, Tried}
+use Rattle.ring.specs.Ring.{top, gap, reservation_step, known_gap, next_of, Step}
+use Rattle.ring.specs.Search.{ClearedWay, GoesOn, Tried}
 use Rattle.ring.specs.declared.ring.Ring.{Ring}
 use Rattle.ring.proofs.Searches.{knows_gap, knows_next, told-dark}
 
@@ -22,15 +23,15 @@ tried_last f step zero = refl
 tried_last f step (suc n) = refl
 
 -- the write of the reservation once the search has ended, by the ring's own format
-module _ {D : Type 0} (moves : Moves D) (meaning : D → Meaning) (s : ℕ) (end : Rank) (start : D) (r : Ring) (d : D) (cleared : Cleared r.format s (meaning start) r (meaning d)) (numbers : top r.format (meaning start).reading + 8 < 2 ^ 62) (rest : GoesOn moves meaning r.format s start (λ e. reserving r.format (meaning d).reading s e ∷ []) d) (d' : D) (wrote : moves.writes d (known_gap r) (encoded r.format.tag (next_of r s end)) d') where
+module _ {D : Type 0} (moves : Moves D) (meaning : D → Meaning) (s : ℕ) (end : Rank) (start : D) (r : Ring) (d : D) (cleared : ClearedWay r.format s (meaning start) r (meaning d)) (numbers : top r.format (meaning start).reading + 8 ≤ LAST_SEQUENCE) (rest : GoesOn moves meaning r.format s start (λ e. reservation_step r.format (meaning d).reading s e ∷ []) d) (d' : D) (wrote : moves.writes d (known_gap r) (encoded r.format.tag (next_of r s end)) d') where
   abbrev m : Meaning
   m = meaning d
 
-  low : top r.format m.reading < 2 ^ 62
+  low : top r.format m.reading ≤ LAST_SEQUENCE
   low = omega (arith, cleared.near)
 
   abbrev last : Step
-  last = reserving r.format m.reading s end.0
+  last = reservation_step r.format m.reading s end.0
 
   gap_there : gap r.format m.reading < count m
   gap_there = let agrees = cleared.agrees in grind (arith, common_steps)
@@ -59,16 +60,16 @@ module _ {D : Type 0} (moves : Moves D) (meaning : D → Meaning) (s : ℕ) (end
       (d', put_there, (after, subst (λ (i : ℕ). moves.flushes d' i after) (knows_gap r m cleared.agrees low) flushed, refl)))
 
 -- the same by the format that the search began with
-module _ {D : Type 0} (moves : Moves D) (meaning : D → Meaning) (f : Format) (s : ℕ) (end : Rank) (start : D) (r : Ring) (d : D) (cleared : Cleared f s (meaning start) r (meaning d)) (numbers : top f (meaning start).reading + 8 < 2 ^ 62) (rest : GoesOn moves meaning f s start (λ e. reserving f (meaning d).reading s e ∷ []) d) (d' : D) (wrote : moves.writes d (known_gap r) (encoded r.format.tag (next_of r s end)) d') where
-  own : Cleared r.format s (meaning start) r (meaning d)
-  own = subst (λ (x : Format). Cleared x s (meaning start) r (meaning d)) (sym cleared.format) cleared
+module _ {D : Type 0} (moves : Moves D) (meaning : D → Meaning) (f : Format) (s : ℕ) (end : Rank) (start : D) (r : Ring) (d : D) (cleared : ClearedWay f s (meaning start) r (meaning d)) (numbers : top f (meaning start).reading + 8 ≤ LAST_SEQUENCE) (rest : GoesOn moves meaning f s start (λ e. reservation_step f (meaning d).reading s e ∷ []) d) (d' : D) (wrote : moves.writes d (known_gap r) (encoded r.format.tag (next_of r s end)) d') where
+  own : ClearedWay r.format s (meaning start) r (meaning d)
+  own = subst (λ (x : Format). ClearedWay x s (meaning start) r (meaning d)) (sym cleared.format) cleared
 
-  own_numbers : top r.format (meaning start).reading + 8 < 2 ^ 62
-  own_numbers = subst (λ (x : Format). top x (meaning start).reading + 8 < 2 ^ 62) (sym cleared.format) numbers
+  own_numbers : top r.format (meaning start).reading + 8 ≤ LAST_SEQUENCE
+  own_numbers = subst (λ (x : Format). top x (meaning start).reading + 8 ≤ LAST_SEQUENCE) (sym cleared.format) numbers
 
-  own_rest : GoesOn moves meaning r.format s start (λ e. reserving r.format (meaning d).reading s e ∷ []) d
+  own_rest : GoesOn moves meaning r.format s start (λ e. reservation_step r.format (meaning d).reading s e ∷ []) d
   own_rest =
-      subst (λ (x : Format). GoesOn moves meaning x s start (λ e. reserving x (meaning d).reading s e ∷ []) d) (sym cleared.format) rest
+      subst (λ (x : Format). GoesOn moves meaning x s start (λ e. reservation_step x (meaning d).reading s e ∷ []) d) (sym cleared.format) rest
 
   pub chain_denied : (fault : DiskFault) → answer_of Write (meaning d) (known_gap r) ≡ Err fault → Tried moves meaning f s start end.0 d'
   chain_denied fault answer =

@@ -1,6 +1,7 @@
 -- A reservation from the end of its search: written and flushed, or stopped at one of the two.
-use Rattle.std.proofs.Common.{◌≡◌, ℕ, suc, ◌+◌, ◌^◌, ◌<◌, ◌≤◌, List, [], ◌∷◌, None, Ok, Err, Option, Result, MatchResult, sym, refl, ap, ◌∙◌, subst, arith}
+use Rattle.std.proofs.Common.{◌≡◌, ℕ, suc, ◌+◌, ◌<◌, ◌≤◌, List, [], ◌∷◌, None, Ok, Err, Option, Result, MatchResult, sym, refl, ap, ◌∙◌, subst, arith}
 use Rattle.std.proofs.lemmas.Grind.{common_steps}
+use Rattle.record.specs.declared.sector.TheConstants.{LAST_SEQUENCE}
 use Rattle.record.specs.Sector.{encoded}
 use Rattle.record.specs.declared.numbers.Rank.{Rank}
 use Rattle.record.specs.declared.sector.Format.{Format}
@@ -9,9 +10,9 @@ use Rattle.disk.specs.Meaning.{Meaning, Wrote, Flushed, answer_of, count}
 use Rattle.disk.specs.declared.fault.DiskFault.{DiskFault}
 use Rattle.disk.specs.declared.fault.Operation.TheVariants.{Write, Flush}
 use Rattle.ring.specs.Operations.{Op, Went, performed, outcome, Writes}
-use Rattle.ring.specs.Ring.{top, gap, next, known_gap, reserving, Agrees, Step}
-use Rattle.ring.specs.Search.{reservation, Cleared, Begun, Ended, MaySearch, MayReserve, refusal, admitted}
-use Rattle.ring.specs.Token.{confirmed}
+use Rattle.ring.specs.Ring.{top, gap, next, known_gap, reservation_step, Agrees, Step}
+use Rattle.ring.specs.Search.{reservation, ClearedWay, Begun, Ended, MaySearch, MayReserve, refusal, admit}
+use Rattle.ring.specs.Token.{confirm}
 use Rattle.ring.specs.Faults.{with_work}
 use Rattle.ring.specs.declared.fault.Interrupted.{Interrupted as Stop}
 use Rattle.ring.specs.declared.fault.RingFault.{RingFault}
@@ -30,8 +31,8 @@ pub may_search : (r : Ring) (m : Meaning) (s : ℕ) (end : Rank) → MayReserve 
 may_search r m s end may = grind arith
 
 -- from a search that has ended
-module _ (s : ℕ) (end : Rank) (whole : Meaning) (r : Ring) (m : Meaning) (cleared : Cleared r.format s whole r m) (series : s < 8) (numbers : top r.format whole.reading + 8 < 2 ^ 62) (some : 1 ≤ end.0) (ends : end.0 ≤ r.format.top.0 + 1) where
-  low : top r.format m.reading < 2 ^ 62
+module _ (s : ℕ) (end : Rank) (whole : Meaning) (r : Ring) (m : Meaning) (cleared : ClearedWay r.format s whole r m) (series : s < 8) (numbers : top r.format whole.reading + 8 ≤ LAST_SEQUENCE) (some : 1 ≤ end.0) (ends : end.0 ≤ r.format.top.0 + 1) where
+  low : top r.format m.reading ≤ LAST_SEQUENCE
   low = omega (arith, cleared.near)
 
   writable : Writable r.format m.reading s end.0
@@ -47,7 +48,7 @@ module _ (s : ℕ) (end : Rank) (whole : Meaning) (r : Ring) (m : Meaning) (clea
   value = reservation r.format whole.reading s end
 
   abbrev last : Step
-  last = reserving r.format m.reading s end.0
+  last = reservation_step r.format m.reading s end.0
 
   -- the current fails at the write
   pub ended_at_write :
@@ -107,12 +108,12 @@ pub work_and_fault : (work : Work) (answer : Result (Unit {0}) DiskFault) (x : S
 work_and_fault work answer x e = grind arith
 
 -- the same by the format that the search began with
-module _ (f : Format) (s : ℕ) (end : Rank) (whole : Meaning) (r : Ring) (m : Meaning) (cleared : Cleared f s whole r m) (series : s < 8) (numbers : top f whole.reading + 8 < 2 ^ 62) (some : 1 ≤ end.0) (ends : end.0 ≤ f.top.0 + 1) where
-  own : Cleared r.format s whole r m
-  own = subst (λ (x : Format). Cleared x s whole r m) (sym cleared.format) cleared
+module _ (f : Format) (s : ℕ) (end : Rank) (whole : Meaning) (r : Ring) (m : Meaning) (cleared : ClearedWay f s whole r m) (series : s < 8) (numbers : top f whole.reading + 8 ≤ LAST_SEQUENCE) (some : 1 ≤ end.0) (ends : end.0 ≤ f.top.0 + 1) where
+  own : ClearedWay r.format s whole r m
+  own = subst (λ (x : Format). ClearedWay x s whole r m) (sym cleared.format) cleared
 
-  own_numbers : top r.format whole.reading + 8 < 2 ^ 62
-  own_numbers = subst (λ (x : Format). top x whole.reading + 8 < 2 ^ 62) (sym cleared.format) numbers
+  own_numbers : top r.format whole.reading + 8 ≤ LAST_SEQUENCE
+  own_numbers = subst (λ (x : Format). top x whole.reading + 8 ≤ LAST_SEQUENCE) (sym cleared.format) numbers
 
   own_ends : end.0 ≤ r.format.top.0 + 1
   own_ends = subst (λ (x : Format). end.0 ≤ x.top.0 + 1) (sym cleared.format) ends
@@ -150,7 +151,7 @@ pub made_of : {A E D : Type 0} (x : Result A E) (d : D) (Q : E → Type 0) → M
 made_of x d Q h = grind arith
 
 -- what was admitted was not refused
-pub is_admitted : {A : Type 0} (x : Option RingFault) (asked a : A) → Ok a ≡ admitted asked x → (x ≡ None) × (a ≡ asked)
+pub is_admitted : {A : Type 0} (x : Option RingFault) (asked a : A) → Ok a ≡ admit asked x → (x ≡ None) × (a ≡ asked)
 is_admitted x asked a e = grind arith
 
 pub may_from : (r : Ring) (m : Meaning) (s : ℕ) (end : Rank) → Agrees r m → refusal r.format r.known.top.0 s end ≡ None → MayReserve r m s end
@@ -162,15 +163,15 @@ module _ (r : Ring) (s : ℕ) (end : Rank) (whole : Meaning) (may : MayReserve r
   sector_is = ap (λ (x : Written). x.sector) begun.token
 
   confirmed_well :
-      (answer : Result (Unit {0}) DiskFault) (reserved : Reserved) → Ok reserved ≡ confirmed w answer →
+      (answer : Result (Unit {0}) DiskFault) (reserved : Reserved) → Ok reserved ≡ confirm w answer →
       reserved ≡ record { series = w.claim.series; start = w.start; end = w.claim.end }
   confirmed_well answer reserved e = grind arith
 
-  confirmed_ill : (answer : Result (Unit {0}) DiskFault) (u : Unconfirmed) → Err u ≡ confirmed w answer → (answer ≡ Err u.fault) × (u.written ≡ w)
+  confirmed_ill : (answer : Result (Unit {0}) DiskFault) (u : Unconfirmed) → Err u ≡ confirm w answer → (answer ≡ Err u.fault) × (u.written ≡ w)
   confirmed_ill answer u e = grind arith
 
   pub confirm_done :
-      (reserved : Reserved) (m'' : Meaning) → Ok reserved ≡ confirmed w (answer_of Flush m' w.sector) → Flushed m' m'' →
+      (reserved : Reserved) (m'' : Meaning) → Ok reserved ≡ confirm w (answer_of Flush m' w.sector) → Flushed m' m'' →
       Ended r.format s end whole (Ok reserved) r' m''
   confirm_done reserved m'' e flushed =
       let is : reserved ≡ reservation r.format whole.reading s end =
@@ -183,7 +184,7 @@ module _ (r : Ring) (s : ℕ) (end : Rank) (whole : Meaning) (may : MayReserve r
       reserved_of x y z = record { series = x; start = y; end = z }
 
   pub confirm_denied :
-      (u : Unconfirmed) (x : Stop) (m'' : Meaning) → Err u ≡ confirmed w (answer_of Flush m' w.sector) → m'' ≡ m' →
+      (u : Unconfirmed) (x : Stop) (m'' : Meaning) → Err u ≡ confirm w (answer_of Flush m' w.sector) → m'' ≡ m' →
       x ≡ record { work = Reservation u.written.claim.series; fault = u.fault } →
       Ended r.format s end whole (Err (Interrupted x)) r' m''
   confirm_denied u x m'' e same given =

@@ -10,7 +10,7 @@ use Rattle.record.specs.declared.sector.Content.TheVariants.{Blank, Foreign, Rec
 use Rattle.record.specs.declared.sector.Format.{Format}
 use Rattle.record.specs.declared.sector.Record.{Record}
 use Rattle.disk.specs.Meaning.{at, found}
-use Rattle.ring.specs.Ring.{record_in, slot, number_in, top_below, top, none, live_of, live_in, newer, live_below, live, met, is_foreign, foreign_below, scanned}
+use Rattle.ring.specs.Ring.{record_in, slot, number_in, top_below, top, none, live_of, live_in, newer, live_below, live, meet, is_foreign, foreign_below, scan}
 use Rattle.ring.specs.declared.fault.RingFault.TheVariants.{Foreign as Foreign'}
 use Rattle.ring.specs.declared.known.Known.{Known}
 use Rattle.ring.specs.declared.known.Live.{Live}
@@ -67,7 +67,7 @@ module _ (f : Format) (reading : List (List ℕ)) (n : ℕ) where
       same_known _ _ _ _ t (sym l)
 
   -- a record is met
-  pub known_record : (r : Record) → content f n (at reading n) ≡ Holds r → known_below f reading (suc n) ≡ met (known_below f reading n) r
+  pub known_record : (r : Record) → content f n (at reading n) ≡ Holds r → known_below f reading (suc n) ≡ meet (known_below f reading n) r
   known_record r e =
       let s = slot-holds f reading n r e in
       let p = placed f reading n r s in
@@ -128,9 +128,9 @@ module _ (f : Format) (reading : List (List ℕ)) (sectors n : ℕ) (all : secto
     reads : content f n (at reading n) ≡ content f n bytes
     reads = ap (content f n) (sym (found_at reading n bytes (omega arith) read))
 
-    pub scan_stops : Foreign ≡ content f n bytes → foreign_below f reading n ≡ None → Err (Foreign' n) ≡ scanned f reading (foreign_below f reading (length reading))
+    pub scan_stops : Foreign ≡ content f n bytes → foreign_below f reading n ≡ None → Err (Foreign' n) ≡ scan f reading (foreign_below f reading (length reading))
     scan_stops is none_yet =
-        sym (ap (scanned f reading) (foreign_lowest f reading n (length reading) (omega arith) (reads ∙ sym is) none_yet))
+        sym (ap (scan f reading) (foreign_lowest f reading n (length reading) (omega arith) (reads ∙ sym is) none_yet))
 
     pub scan_blank :
         (k : Known) → Blank ≡ content f n bytes → (foreign_below f reading n ≡ None) × (k ≡ known_below f reading n) →
@@ -142,15 +142,15 @@ module _ (f : Format) (reading : List (List ℕ)) (sectors n : ℕ) (all : secto
         )
 
     pub scan_record :
-        (k k' : Known) (r : Record) → Holds r ≡ content f n bytes → k' ≡ met k r →
+        (k k' : Known) (r : Record) → Holds r ≡ content f n bytes → k' ≡ meet k r →
         (foreign_below f reading n ≡ None) × (k ≡ known_below f reading n) →
         (foreign_below f reading (n + 1) ≡ None) × (k' ≡ known_below f reading (n + 1))
     scan_record k k' r is meets inv =
         rw add-one (
           foreign_none f reading n (Holds r) (reads ∙ sym is) refl inv.0,
-          meets ∙ ap (λ (x : Known). met x r) inv.1 ∙ sym (known_record f reading n r (reads ∙ sym is)),
+          meets ∙ ap (λ (x : Known). meet x r) inv.1 ∙ sym (known_record f reading n r (reads ∙ sym is)),
         )
 
-  pub scan_ends : (k : Known) → n ≡ sectors → (foreign_below f reading n ≡ None) × (k ≡ known_below f reading n) → Ok k ≡ scanned f reading (foreign_below f reading (length reading))
+  pub scan_ends : (k : Known) → n ≡ sectors → (foreign_below f reading n ≡ None) × (k ≡ known_below f reading n) → Ok k ≡ scan f reading (foreign_below f reading (length reading))
   unfolding top live
   scan_ends k e inv = grind arith

@@ -1,8 +1,9 @@
 -- One turn of the search: a carry leads on, darkness stops it, and where nothing is to be carried it ends.
-use Rattle.std.proofs.Common.{◌≡◌, ℕ, suc, ◌+◌, ◌-◌, ◌^◌, ◌<◌, ◌≤◌, cond, eqb, List, [], ◌∷◌, length, set, Some, None, Ok, Err, Result, sym, refl, ap, ◌∙◌, subst, arith}
+use Rattle.std.proofs.Common.{◌≡◌, ℕ, suc, ◌+◌, ◌-◌, ◌<◌, ◌≤◌, cond, eqb, List, [], ◌∷◌, length, set, Some, None, Ok, Err, Result, sym, refl, ap, ◌∙◌, subst, arith}
 use Rattle.std.proofs.lemmas.Grind.{common_steps}
 use Rattle.std.proofs.lemmas.List.FromFn.{length-map-range_with_len}
 use Rattle.std.proofs.lemmas.Bool.{lt-ltb}
+use Rattle.record.specs.declared.sector.TheConstants.{LAST_SEQUENCE}
 use Rattle.record.specs.Sector.{encoded}
 use Rattle.record.specs.declared.numbers.Rank.{Rank}
 use Rattle.record.specs.declared.sector.Format.{Format}
@@ -13,8 +14,8 @@ use Rattle.disk.specs.declared.fault.DiskFault.{DiskFault}
 use Rattle.disk.specs.declared.fault.Operation.{Operation}
 use Rattle.disk.specs.declared.fault.Operation.TheVariants.{Write, Flush}
 use Rattle.ring.specs.Operations.{Op, put, settle, Went, performed, tried, outcome, Writes}
-use Rattle.ring.specs.Ring.{top, live, gap, carried, next, with_record, known, live_of, known_gap, next_of, with_noted, reserving, carrying, first_then, plan, Agrees, Step}
-use Rattle.ring.specs.Search.{Continues, Cleared, Stopped, MaySearch}
+use Rattle.ring.specs.Ring.{top, live, gap, next_carry, next, with_record, known, live_of, known_gap, next_of, with_noted, reservation_step, carry_step, first_then, plan, Agrees, Step}
+use Rattle.ring.specs.Search.{Continues, ClearedWay, StoppedSearch, MaySearch}
 use Rattle.ring.specs.declared.fault.RingFault.TheVariants.{Interrupted}
 use Rattle.ring.specs.declared.fault.Work.TheVariants.{Carry}
 use Rattle.ring.specs.declared.ring.Ring.{Ring}
@@ -33,19 +34,19 @@ pub record Searching (f : Format) (s : ℕ) (whole : Meaning) (r : Ring) (m : Me
       Continues f s whole m (λ end. plan f (top f whole.reading + 7 - top f m.reading) s end m.reading)
 
 -- the plan, by whether something is to be carried
-pub plan-ends : (f : Format) (n s end : ℕ) (reading : List (List ℕ)) → carried f reading s ≡ None → plan f n s end reading ≡ reserving f reading s end ∷ []
+pub plan-ends : (f : Format) (n s end : ℕ) (reading : List (List ℕ)) → next_carry f reading s ≡ None → plan f n s end reading ≡ reservation_step f reading s end ∷ []
 unfolding plan
 plan-ends f n s end reading e = grind arith
 
 pub plan_carries :
-    (f : Format) (n s end : ℕ) (reading : List (List ℕ)) (r : Record) → carried f reading s ≡ Some r →
+    (f : Format) (n s end : ℕ) (reading : List (List ℕ)) (r : Record) → next_carry f reading s ≡ Some r →
     plan f (suc n) s end reading
-    ≡ carrying f reading r ∷ plan f n s end (with_record f reading (next f reading r.series r.end.0))
+    ≡ carry_step f reading r ∷ plan f n s end (with_record f reading (next f reading r.series r.end.0))
 unfolding plan
 plan_carries f n s end reading r e = ap (first_then f reading s end (λ q. plan f n s end (with_record f reading q))) e
 
 -- the ring knows the gap and the next record
-module _ (r : Ring) (m : Meaning) (a : Agrees r m) (low : top r.format m.reading < 2 ^ 62) where
+module _ (r : Ring) (m : Meaning) (a : Agrees r m) (low : top r.format m.reading ≤ LAST_SEQUENCE) where
   pub knows_gap : known_gap r ≡ gap r.format m.reading
   knows_gap = grind arith
 
@@ -102,12 +103,12 @@ by_supply operation i fault p h = grind arith
 pub told-dark : (operation : Operation) (m : Meaning) (i : ℕ) (fault : DiskFault) → i < count m → answer_of operation m i ≡ Err fault → (m.supply ≡ 0) × (fault ≡ denied Dark operation i)
 told-dark operation m i fault l e = by_supply operation i fault m.supply (rw (lt-ltb i (count m) l) at e)
 
-module _ (s : ℕ) (whole : Meaning) (r : Ring) (m : Meaning) (search : Searching r.format s whole r m) (numbers : top r.format whole.reading + 8 < 2 ^ 62) where
-  low : top r.format m.reading < 2 ^ 62
+module _ (s : ℕ) (whole : Meaning) (r : Ring) (m : Meaning) (search : Searching r.format s whole r m) (numbers : top r.format whole.reading + 8 ≤ LAST_SEQUENCE) where
+  low : top r.format m.reading ≤ LAST_SEQUENCE
   low = omega (arith, search.few)
 
   -- nothing to carry: the search ends
-  pub search_ends : carried r.format m.reading s ≡ None → Cleared r.format s whole r m
+  pub search_ends : next_carry r.format m.reading s ≡ None → ClearedWay r.format s whole r m
   search_ends e =
       record {
         agrees = search.agrees;
@@ -121,10 +122,10 @@ module _ (s : ℕ) (whole : Meaning) (r : Ring) (m : Meaning) (search : Searchin
             };
       }
     where
-      left_over : (end : ℕ) → plan r.format (top r.format whole.reading + 7 - top r.format m.reading) s end m.reading ≡ reserving r.format m.reading s end ∷ []
+      left_over : (end : ℕ) → plan r.format (top r.format whole.reading + 7 - top r.format m.reading) s end m.reading ≡ reservation_step r.format m.reading s end ∷ []
       left_over end = plan-ends r.format (top r.format whole.reading + 7 - top r.format m.reading) s end m.reading e
 
-  module _ (q : Record) (e : carried r.format m.reading s ≡ Some q) where
+  module _ (q : Record) (e : next_carry r.format m.reading s ≡ Some q) where
     lives_known : r.known.lives ≡ (known r.format m.reading).lives
     lives_known = ap (λ k. k.lives) search.agrees.knows
 
@@ -145,7 +146,7 @@ module _ (s : ℕ) (whole : Meaning) (r : Ring) (m : Meaning) (search : Searchin
     clear = carry_clear r.format m.reading s q e
 
     -- the writes that are left, with this carry first
-    carries_left : (end : ℕ) → (n : ℕ) → top r.format whole.reading + 7 - top r.format m.reading ≡ suc n → plan r.format (top r.format whole.reading + 7 - top r.format m.reading) s end m.reading ≡ carrying r.format m.reading q ∷ plan r.format n s end (with_record r.format m.reading new)
+    carries_left : (end : ℕ) → (n : ℕ) → top r.format whole.reading + 7 - top r.format m.reading ≡ suc n → plan r.format (top r.format whole.reading + 7 - top r.format m.reading) s end m.reading ≡ carry_step r.format m.reading q ∷ plan r.format n s end (with_record r.format m.reading new)
     carries_left end n is =
         ap (λ (k : ℕ). plan r.format k s end m.reading) is ∙ plan_carries r.format n s end m.reading q e
 
@@ -188,14 +189,14 @@ module _ (s : ℕ) (whole : Meaning) (r : Ring) (m : Meaning) (search : Searchin
       unfolding outcome
       answers_on value end =
           ap (λ (steps : List Step). outcome value steps m.supply) (carries_left end fuel one_less)
-          ∙ ap (λ (p : ℕ). outcome value (carrying r.format m.reading q ∷ plan r.format fuel s end (with_record r.format m.reading new)) p) spent
+          ∙ ap (λ (p : ℕ). outcome value (carry_step r.format m.reading q ∷ plan r.format fuel s end (with_record r.format m.reading new)) p) spent
           ∙ ap (λ (steps : List Step). outcome value steps m'.supply) (now_left end)
 
       ops_on : (end : ℕ) → performed r.format (plan r.format (top r.format whole.reading + 7 - top r.format m.reading) s end m.reading) m.supply ≡ put (gap r.format m.reading) (encoded r.format.tag new) ∷ settle (gap r.format m.reading) ∷ performed r.format (plan r.format (top r.format whole.reading + 7 - top r.format m'.reading) s end m'.reading) m'.supply
       unfolding performed
       ops_on end =
           ap (λ (steps : List Step). performed r.format steps m.supply) (carries_left end fuel one_less)
-          ∙ ap (λ (p : ℕ). performed r.format (carrying r.format m.reading q ∷ plan r.format fuel s end (with_record r.format m.reading new)) p) spent
+          ∙ ap (λ (p : ℕ). performed r.format (carry_step r.format m.reading q ∷ plan r.format fuel s end (with_record r.format m.reading new)) p) spent
           ∙ ap (λ (steps : List Step). put (gap r.format m.reading) (encoded r.format.tag new) ∷ settle (gap r.format m.reading) ∷ performed r.format steps m'.supply) (now_left end)
 
       -- the same of the operations that are tried
@@ -203,7 +204,7 @@ module _ (s : ℕ) (whole : Meaning) (r : Ring) (m : Meaning) (search : Searchin
       unfolding tried
       tried_on end =
           ap (λ (steps : List Step). tried r.format steps m.supply) (carries_left end fuel one_less)
-          ∙ ap (λ (p : ℕ). tried r.format (carrying r.format m.reading q ∷ plan r.format fuel s end (with_record r.format m.reading new)) p) spent
+          ∙ ap (λ (p : ℕ). tried r.format (carry_step r.format m.reading q ∷ plan r.format fuel s end (with_record r.format m.reading new)) p) spent
           ∙ ap (λ (steps : List Step). put (gap r.format m.reading) (encoded r.format.tag new) ∷ settle (gap r.format m.reading) ∷ tried r.format steps m'.supply) (now_left end)
 
       pub search_goes_on : Searching r.format s whole r' m'
@@ -233,9 +234,9 @@ module _ (s : ℕ) (whole : Meaning) (r : Ring) (m : Meaning) (search : Searchin
       unfolding tried
       tried_at_write end =
           ap (λ (steps : List Step). tried r.format steps m.supply) (carries_left end fuel one_less)
-          ∙ ap (tried r.format (carrying r.format m.reading q ∷ plan r.format fuel s end (with_record r.format m.reading new))) at_write.0
+          ∙ ap (tried r.format (carry_step r.format m.reading q ∷ plan r.format fuel s end (with_record r.format m.reading new))) at_write.0
 
-      pub stops_at_write : Stopped r.format s whole (Interrupted (record { work = Carry q.series; fault = fault })) r m
+      pub stops_at_write : StoppedSearch r.format s whole (Interrupted (record { work = Carry q.series; fault = fault })) r m
       unfolding outcome performed
       stops_at_write =
           record {
@@ -244,14 +245,14 @@ module _ (s : ℕ) (whole : Meaning) (r : Ring) (m : Meaning) (search : Searchin
             answers = λ value end.
                 search.rest.answers value end
                 ∙ ap (λ (steps : List Step). outcome value steps m.supply) (carries_left end fuel one_less)
-                ∙ ap (outcome value (carrying r.format m.reading q ∷ plan r.format fuel s end (with_record r.format m.reading new))) at_write.0
+                ∙ ap (outcome value (carry_step r.format m.reading q ∷ plan r.format fuel s end (with_record r.format m.reading new))) at_write.0
                 ∙ ap (λ (x : DiskFault). Err (Interrupted (record { work = Carry q.series; fault = x }))) (sym at_write.1);
             goes = λ end.
                 search.rest.goes end m
                 (subst (λ (ops : List Op). Went m ops m)
                 (sym
                 (ap (λ (steps : List Step). performed r.format steps m.supply) (carries_left end fuel one_less)
-                ∙ ap (performed r.format (carrying r.format m.reading q ∷ plan r.format fuel s end (with_record r.format m.reading new))) at_write.0))
+                ∙ ap (performed r.format (carry_step r.format m.reading q ∷ plan r.format fuel s end (with_record r.format m.reading new))) at_write.0))
                 refl);
           }
 
@@ -273,9 +274,9 @@ module _ (s : ℕ) (whole : Meaning) (r : Ring) (m : Meaning) (search : Searchin
       unfolding tried
       tried_at_flush end =
           ap (λ (steps : List Step). tried r.format steps m.supply) (carries_left end fuel one_less)
-          ∙ ap (tried r.format (carrying r.format m.reading q ∷ plan r.format fuel s end (with_record r.format m.reading new))) last_one
+          ∙ ap (tried r.format (carry_step r.format m.reading q ∷ plan r.format fuel s end (with_record r.format m.reading new))) last_one
 
-      pub stops_at_flush : Stopped r.format s whole (Interrupted (record { work = Carry q.series; fault = fault })) r' m'
+      pub stops_at_flush : StoppedSearch r.format s whole (Interrupted (record { work = Carry q.series; fault = fault })) r' m'
       unfolding outcome performed
       stops_at_flush =
           record {
@@ -284,14 +285,14 @@ module _ (s : ℕ) (whole : Meaning) (r : Ring) (m : Meaning) (search : Searchin
             answers = λ value end.
                 search.rest.answers value end
                 ∙ ap (λ (steps : List Step). outcome value steps m.supply) (carries_left end fuel one_less)
-                ∙ ap (outcome value (carrying r.format m.reading q ∷ plan r.format fuel s end (with_record r.format m.reading new))) last_one
+                ∙ ap (outcome value (carry_step r.format m.reading q ∷ plan r.format fuel s end (with_record r.format m.reading new))) last_one
                 ∙ ap (λ (x : DiskFault). Err (Interrupted (record { work = Carry q.series; fault = x }))) (sym at_flush.1);
             goes = λ end.
                 search.rest.goes end m'
                 (subst (λ (ops : List Op). Went m ops m')
                 (sym
                 (ap (λ (steps : List Step). performed r.format steps m.supply) (carries_left end fuel one_less)
-                ∙ ap (performed r.format (carrying r.format m.reading q ∷ plan r.format fuel s end (with_record r.format m.reading new))) last_one))
+                ∙ ap (performed r.format (carry_step r.format m.reading q ∷ plan r.format fuel s end (with_record r.format m.reading new))) last_one))
                 (m', put_last, refl));
           }
 

@@ -1,6 +1,7 @@
 -- What the sectors hold: records in their places, the top record, and the live ones.
-use Rattle.std.proofs.Common.{◌≡◌, ℕ, zero, suc, ◌+◌, ◌%◌, ◌^◌, ◌<◌, ◌≤◌, max, true, ◌⊎◌, List, length, Some, Option, sym, refl, ap, ◌∙◌, inl, inr, ⊎_elim, arith}
+use Rattle.std.proofs.Common.{◌≡◌, ℕ, zero, suc, ◌+◌, ◌%◌, ◌<◌, ◌≤◌, max, true, ◌⊎◌, List, length, Some, Option, sym, refl, ap, ◌∙◌, inl, inr, ⊎_elim, arith}
 use Rattle.std.proofs.lemmas.Bool.{cases_eq}
+use Rattle.record.specs.declared.sector.TheConstants.{LAST_SEQUENCE}
 use Rattle.record.specs.Sector.{content, lawful}
 use Rattle.record.specs.declared.sector.Content.{Content}
 use Rattle.record.specs.declared.sector.Content.TheVariants.{Record as Holds}
@@ -14,7 +15,7 @@ use Rattle.ring.specs.declared.known.Live.{Live}
 pub record Placed (f : Format) (k : ℕ) (r : Record) : Type 0 where
   pub series : r.series < 8
   pub first : 1 ≤ r.sequence.0
-  pub last : r.sequence.0 < 2 ^ 62
+  pub last : r.sequence.0 ≤ LAST_SEQUENCE
   pub some : 1 ≤ r.end.0
   pub ends : r.end.0 ≤ f.top.0 + 1
   pub sectors : 0 < f.sectors

@@ -7,7 +7,7 @@ use Rattle.record.specs.declared.sector.Record.{Record}
 use Rattle.disk.specs.Meaning.{Meaning, at}
 use Rattle.disk.specs.Blank.{WithoutRecords}
 use Rattle.ring.specs.Left.{Recovers, end_of}
-use Rattle.ring.specs.Ring.{record_in, slot, top, none, gap, known, known_end, is_foreign, Sized, Agrees, foreign_below, holds_live, recovered}
+use Rattle.ring.specs.Ring.{record_in, slot, top, none, gap, known, known_end, is_foreign, Sized, Agrees, foreign_below, holds_live, recover}
 use Rattle.ring.specs.declared.known.Live.{Live}
 use Rattle.ring.specs.declared.ring.Ring.{Ring}
 use Rattle.ring.proofs.Cuts.{blank_from}
@@ -52,7 +52,7 @@ none-live : (f : Format) (reading : List (List ℕ)) → Recovers f reading → 
 none-live f reading recovers x e = grind arith
 
 -- sectors that recover: recovery answers the ring that knows them, and that ring agrees with the disk
-pub recovers_answer : (f : Format) (reading : List (List ℕ)) → Recovers f reading → recovered f reading ≡ Ok (record { format = f; known = known f reading })
+pub recovers_answer : (f : Format) (reading : List (List ℕ)) → Recovers f reading → recover f reading ≡ Ok (record { format = f; known = known f reading })
 recovers_answer f reading recovers =
     let z = recovers.sized in
     let least : leb 10 f.sectors ≡ true = le-leb 10 f.sectors (omega (arith, z.count, z.least)) in

@@ -1,9 +1,10 @@
 -- What a record written into the gap changes: one lemma for a reservation and for a carry.
-use Rattle.std.proofs.Common.{◌≡◌, ℕ, ◌+◌, ◌%◌, ◌^◌, ◌<◌, ◌≤◌, true, false, ◌&&◌, eqb, ◌≢◌, ◌⊎◌, List, [], length, set, Some, sym, refl, ap, ◌∙◌, inl, inr, ⊎_elim, arith}
+use Rattle.std.proofs.Common.{◌≡◌, ℕ, ◌+◌, ◌%◌, ◌<◌, ◌≤◌, true, false, ◌&&◌, eqb, ◌≢◌, ◌⊎◌, List, [], length, set, Some, sym, refl, ap, ◌∙◌, inl, inr, ⊎_elim, arith}
 use Rattle.std.proofs.lemmas.Grind.{common_steps}
 use Rattle.std.proofs.lemmas.Nat.{mod_below}
 use Rattle.std.proofs.lemmas.List.{get_or-set_same, get_or-set_other, length-set}
 use Rattle.std.proofs.lemmas.Bool.{cases_eq, eq-eqb, ne_eqb}
+use Rattle.record.specs.declared.sector.TheConstants.{LAST_SEQUENCE}
 use Rattle.record.specs.Sector.{content, encoded, lawful}
 use Rattle.record.specs.declared.sector.Content.TheVariants.{Record as Holds}
 use Rattle.record.specs.declared.sector.Format.{Format}
@@ -25,7 +26,7 @@ Clear f reading s =
 -- the numbers of a record that may be written next
 pub record Writable (f : Format) (reading : List (List ℕ)) (s end : ℕ) : Type 0 where
   pub series : s < 8
-  pub numbered : top f reading + 1 < 2 ^ 62
+  pub numbered : top f reading + 1 ≤ LAST_SEQUENCE
   pub some : 1 ≤ end
   pub ends : end ≤ f.top.0 + 1
 

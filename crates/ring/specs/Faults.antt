@@ -1,6 +1,7 @@
--- What the ring's denials tell, and a disk's answer with the work that was under way.
-use Rattle.std.specs.Prelude.{ℕ, Some, None, Ok, Err, Result}
-use Rattle.disk.specs.Faults.{cause_details, sector_told}
+-- What the ring's denials tell, in numbers and in words, and a disk's answer with the work that was under way.
+use Rattle.std.specs.Prelude.{ℕ, List, ◌++◌, codes, Some, None, Ok, Err, Result}
+use Rattle.std.specs.Fmt.{decimal}
+use Rattle.disk.specs.Faults.{cause_details, sector_told, disk_fault_text}
 use Rattle.disk.specs.declared.fault.DiskFault.{DiskFault}
 use Rattle.ring.specs.declared.fault.Interrupted.{Interrupted}
 use Rattle.ring.specs.declared.fault.Particulars.{Particulars}
@@ -27,8 +28,8 @@ abbrev pub series_of : Work → ℕ
 series_of (Carry series) = series
 series_of (Reservation series) = series
 
--- what each denial tells: of a size, a foreign sector, a live record in the gap, a series, an end, numbers that run short, a
--- read, and a write or a flush with the work that it stopped
+-- what each denial tells: of a size, a foreign sector, a live record in the gap, a series, an end, numbers that run
+-- short, a read, and a write or a flush with the work that it stopped
 abbrev pub particulars : RingFault → Particulars
 particulars (Size count) = numbered 3
 particulars (Foreign sector) = record (numbered 5) { sector = Some sector }
@@ -47,3 +48,26 @@ particulars (Stopped stopped) =
 abbrev pub with_work : Work → Result (Unit {0}) DiskFault → Result (Unit {0}) Interrupted
 with_work work (Ok done) = Ok done
 with_work work (Err fault) = Err (record { work = work; fault = fault })
+
+-- the work by name, and its series
+abbrev pub work_text : Work → List ℕ
+work_text (Carry series) = codes "carry of series " ++ decimal series
+work_text (Reservation series) = codes "reservation of series " ++ decimal series
+
+-- the work, and what the disk denied
+abbrev pub interrupted_text : Interrupted → List ℕ
+interrupted_text stopped =
+    work_text stopped.work ++ (codes " stopped: " ++ disk_fault_text stopped.fault)
+
+-- what was denied, and why
+abbrev pub ring_fault_text : RingFault → List ℕ
+ring_fault_text (Size count) = codes "a disk has 10 to 2048 sectors, not " ++ decimal count
+ring_fault_text (Foreign sector) =
+    codes "sector " ++ (decimal sector ++ codes " is sound and no record of this server")
+ring_fault_text (LiveInGap sector) =
+    codes "sector " ++ (decimal sector ++ codes " is to be written next and holds a live record")
+ring_fault_text (Series series) = codes "there is no series " ++ decimal series
+ring_fault_text (End end) = codes "no reservation ends at " ++ decimal end.0
+ring_fault_text Exhausted = codes "sequence numbers run short"
+ring_fault_text (Disk fault) = disk_fault_text fault
+ring_fault_text (Stopped stopped) = interrupted_text stopped

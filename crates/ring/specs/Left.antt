@@ -1,10 +1,11 @@
 -- What a cut leaves of a ring, in terms of what its sectors read.
-use Rattle.std.specs.Prelude.{◌≡◌, ℕ, ◌+◌, ◌*◌, ◌^◌, ◌<◌, ◌≤◌, min, ◌≢◌, ◌⊎◌, List, [], ◌∷◌, length, Some, None, Ok, Err}
+use Rattle.std.specs.Prelude.{◌≡◌, ℕ, ◌+◌, ◌*◌, ◌<◌, ◌≤◌, min, ◌≢◌, ◌⊎◌, List, [], ◌∷◌, length, Some, None, Ok, Err}
+use Rattle.record.specs.declared.sector.TheConstants.{LAST_SEQUENCE}
 use Rattle.record.specs.declared.sector.Format.{Format}
 use Rattle.record.specs.declared.sector.Record.{Record}
 use Rattle.disk.specs.Meaning.{Meaning, Cut}
 use Rattle.ring.specs.Operations.{Went, performed, outcome, writes_in}
-use Rattle.ring.specs.Ring.{top, live, carried, with_record, carrying, reserving, plan, Sized, Free, Native, Step}
+use Rattle.ring.specs.Ring.{top, live, next_carry, with_record, carry_step, reservation_step, plan, Sized, Free, Native, Step}
 use Rattle.ring.specs.declared.fault.RingFault.{RingFault}
 use Rattle.ring.specs.declared.token.Reserved.{Reserved}
 
@@ -18,8 +19,8 @@ pub record Recovers (f : Format) (reading : List (List ℕ)) : Type 0 where
 abbrev pub end_of : Format → List (List ℕ) → ℕ → ℕ
 end_of f reading s = (live f reading s).end.0
 
--- what may be left of sectors in which series s was reserving up to an end: they recover, and every end is as before, or of
--- series s the new one; the top record does not fall, and rises by at most 8
+-- what may be left of sectors in which series s was reserving up to an end: they recover, and every end is as before, or
+-- of series s the new one; the top record does not fall, and rises by at most 8
 pub record Left (f : Format) (s end : ℕ) (before after : List (List ℕ)) : Type 0 where
   pub recovers : Recovers f after
   pub ends : (t : ℕ) → (end_of f after t ≡ end_of f before t) ⊎ ((t ≡ s) × (end_of f after t ≡ end))
@@ -39,7 +40,7 @@ pub record ReservedUpTo (f : Format) (s end : ℕ) (before after : List (List �
 pub record HasRoom (f : Format) (s : ℕ) (reading : List (List ℕ)) : Type 0 where
   pub recovers : Recovers f reading
   pub series : s < 8
-  pub numbers : top f reading + 8 < 2 ^ 62
+  pub numbers : top f reading + 8 ≤ LAST_SEQUENCE
 
 -- a reservation that may be made on sectors that recover, all of them kept
 pub record LawfulReservation (f : Format) (s end : ℕ) (m : Meaning) : Type 0 where
@@ -48,9 +49,10 @@ pub record LawfulReservation (f : Format) (s end : ℕ) (m : Meaning) : Type 0 w
   pub series : s < 8
   pub some : 1 ≤ end
   pub ends : end ≤ f.top.0 + 1
-  pub numbers : top f m.reading + 8 < 2 ^ 62
+  pub numbers : top f m.reading + 8 ≤ LAST_SEQUENCE
 
--- wherever the current fails in a reservation, and whatever the cut leaves, the ring recovers with the old ends or the new one
+-- wherever the current fails in a reservation, and whatever the cut leaves, the ring recovers with the old ends or the
+-- new one
 abbrev pub CutWithin : Type 0
 CutWithin =
     (f : Format) (s end : ℕ) (m after left : Meaning) (supply : ℕ) →
@@ -70,15 +72,20 @@ ReservedWhole =
 
 -- a cut of sectors that are all kept changes none
 abbrev pub CutAtRest : Type 0
-CutAtRest = (m left : Meaning) (supply : ℕ) → m.kept ≡ m.reading → Cut m supply left → left.reading ≡ m.reading
+CutAtRest =
+    (m left : Meaning) (supply : ℕ) → m.kept ≡ m.reading → Cut m supply left →
+    left.reading ≡ m.reading
 
--- the writes that the rule asks for: a carry while the sector after the gap holds another series' live record, then the reservation
+-- the writes that the rule asks for: a carry while the sector after the gap holds another series' live record, then the
+-- reservation
 pub data Follows (f : Format) (s end : ℕ) : List (List ℕ) → List Step → Type 0 where
-  stops : {reading : List (List ℕ)} → carried f reading s ≡ None → Follows f s end reading (reserving f reading s end ∷ [])
+  stops :
+      {reading : List (List ℕ)} → next_carry f reading s ≡ None →
+      Follows f s end reading (reservation_step f reading s end ∷ [])
   carries :
-      {reading : List (List ℕ)} {steps : List Step} (q : Record) → carried f reading s ≡ Some q →
-      Follows f s end (with_record f reading (carrying f reading q).entry) steps →
-      Follows f s end reading (carrying f reading q ∷ steps)
+      {reading : List (List ℕ)} {steps : List Step} (q : Record) → next_carry f reading s ≡ Some q →
+      Follows f s end (with_record f reading (carry_step f reading q).entry) steps →
+      Follows f s end reading (carry_step f reading q ∷ steps)
 
 -- the plan is what the rule asks for, kept or not, and has at most seven carries
 abbrev pub SevenCarries : Type 0
@@ -86,7 +93,14 @@ SevenCarries =
     (f : Format) (s end : ℕ) (reading : List (List ℕ)) → HasRoom f s reading →
     Follows f s end reading (plan f 7 s end reading) × (length (plan f 7 s end reading) ≤ 8)
 
--- with k carries a reservation takes 2 × (k + 1) writes and flushes; with that supply it succeeds, and with less it is stopped
+-- no reservation has more writes and flushes than this
+abbrev pub AtMostSoMany : ℕ → Type 0
+AtMostSoMany most =
+    (f : Format) (s end supply : ℕ) (reading : List (List ℕ)) → HasRoom f s reading →
+    length (performed f (plan f 7 s end reading) supply) ≤ most
+
+-- a reservation tries a write and a flush for each of its steps: with a supply for all it succeeds, and with less it is
+-- stopped
 abbrev pub OperationsCounted : Type 0
 OperationsCounted =
     (f : Format) (value : Reserved) (steps : List Step) (supply : ℕ) →
@@ -99,9 +113,11 @@ abbrev pub TopsCounted : Type 0
 TopsCounted =
     (f : Format) (s end : ℕ) (m after : Meaning) →
     LawfulReservation f s end m →
-    Went m (performed f (plan f 7 s end m.reading) m.supply) after →
-    (top f after.reading ≤ top f m.reading + writes_in (performed f (plan f 7 s end m.reading) m.supply))
-    × ((left : Meaning) (supply : ℕ) → Cut after supply left → top f left.reading ≤ top f m.reading + writes_in (performed f (plan f 7 s end m.reading) m.supply))
+    let done = performed f (plan f 7 s end m.reading) m.supply in
+    Went m done after →
+    (top f after.reading ≤ top f m.reading + writes_in done)
+    × ((left : Meaning) (supply : ℕ) →
+    Cut after supply left → top f left.reading ≤ top f m.reading + writes_in done)
 
 -- the laws of a reservation
 pub record ReservationLaws : Type 0 where

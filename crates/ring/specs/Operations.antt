@@ -3,6 +3,7 @@ use Rattle.std.specs.Prelude.{◌≡◌, ℕ, zero, suc, ◌⊎◌, List, [], �
 use Rattle.record.specs.Sector.{encoded}
 use Rattle.record.specs.declared.numbers.Rank.{Rank}
 use Rattle.record.specs.declared.sector.Format.{Format}
+use Rattle.record.specs.declared.sector.Record.{Record}
 use Rattle.disk.specs.Meaning.{Meaning, Wrote, Flushed, denied, answer_of}
 use Rattle.disk.specs.Moves.{Moves}
 use Rattle.disk.specs.declared.fault.Cause.TheVariants.{Dark}
@@ -21,14 +22,14 @@ pub data Op : Type 0 where
   settle : ℕ → Op
 
 -- what an operation does to the meaning
-abbrev pub Does : Meaning → Op → Meaning → Type 0
-Does m (put i bytes) after = Wrote m i bytes after
-Does m (settle i) after = Flushed m after
+abbrev pub Performs : Meaning → Op → Meaning → Type 0
+Performs m (put i bytes) after = Wrote m i bytes after
+Performs m (settle i) after = Flushed m after
 
 -- the meaning goes over by these operations, in their order, and by no other
 abbrev pub Went : Meaning → List Op → Meaning → Type 0
 Went m [] after = after ≡ m
-Went m (op ∷ ops) after = (between : Meaning) × Does m op between × Went between ops after
+Went m (op ∷ ops) after = (between : Meaning) × Performs m op between × Went between ops after
 
 -- by a disk's own relations
 module _ {D : Type 0} (moves : Moves D) where
@@ -54,7 +55,8 @@ performed f (step ∷ steps) (suc (suc supply)) =
 unfoldable pub tried : Format → List Step → ℕ → List Op
 tried f [] supply = []
 tried f (step ∷ steps) zero = put step.sector (encoded f.tag step.entry) ∷ []
-tried f (step ∷ steps) (suc zero) = put step.sector (encoded f.tag step.entry) ∷ settle step.sector ∷ []
+tried f (step ∷ steps) (suc zero) =
+    put step.sector (encoded f.tag step.entry) ∷ settle step.sector ∷ []
 tried f (step ∷ steps) (suc (suc supply)) =
     put step.sector (encoded f.tag step.entry) ∷ settle step.sector ∷ tried f steps supply
 
@@ -71,7 +73,8 @@ writes_in (settle i ∷ ops) = writes_in ops
 
 -- the current fails at a write or at its flush
 abbrev pub dark : Operation → Step → RingFault
-dark operation step = Stopped (record { work = step.work; fault = denied Dark operation step.sector })
+dark operation step =
+    Stopped (record { work = step.work; fault = denied Dark operation step.sector })
 
 -- what these writes answer with so much supply
 unfoldable pub outcome : Reserved → List Step → ℕ → Result Reserved RingFault
@@ -83,7 +86,13 @@ outcome value (step ∷ steps) (suc (suc supply)) = outcome value steps supply
 -- a write of a record, and the ring that notes it
 abbrev pub Writes : Ring → Meaning → ℕ → Rank → Ring → Meaning → Type 0
 Writes r m s end r' m' =
-    Wrote m (known_gap r) (encoded r.format.tag (next_of r s end)) m' × (r' ≡ with_noted r (next_of r s end))
+    Wrote m (known_gap r) (encoded r.format.tag (next_of r s end)) m'
+    × (r' ≡ with_noted r (next_of r s end))
+
+-- a carry that is written and flushed
+abbrev pub Carries : Ring → Meaning → Record → Ring → Meaning → Type 0
+Carries r m q r' m' =
+    (between : Meaning) × Writes r m q.series q.end r' between × Flushed between m'
 
 -- a write that was denied, or whose flush was
 abbrev pub Denied : Ring → Meaning → ℕ → Rank → DiskFault → Ring → Meaning → Type 0

@@ -8,8 +8,8 @@ use Rattle.disk.specs.Meaning.{Meaning, found, answer_of}
 use Rattle.disk.specs.Moves.{Moves}
 use Rattle.disk.specs.declared.fault.DiskFault.{DiskFault}
 use Rattle.disk.specs.declared.fault.Operation.TheVariants.{Write, Flush}
-use Rattle.ring.specs.Operations.{Op, put, settle, Does, Move}
-use Rattle.ring.specs.Ring.{named, known_gap, next_of, with_noted, carry_of, Step}
+use Rattle.ring.specs.Operations.{Op, put, settle, Performs, Move}
+use Rattle.ring.specs.Ring.{sector_of, known_gap, next_of, with_noted, carry_of, Step}
 use Rattle.ring.specs.declared.fault.RingFault.{RingFault}
 use Rattle.ring.specs.declared.fault.RingFault.TheVariants.{Disk, Interrupted as Stopped}
 use Rattle.ring.specs.declared.fault.Work.{Work}
@@ -20,7 +20,7 @@ use Rattle.ring.specs.declared.token.Reserved.{Reserved}
 
 -- the sector after the gap as the ring knows it
 abbrev pub known_beyond : Ring → ℕ
-known_beyond r = named (min (r.known.top.0 + 2) (2 ^ 64 - 1)) r.format.sectors
+known_beyond r = sector_of (min (r.known.top.0 + 2) (2 ^ 64 - 1)) r.format.sectors
 
 -- what a sector holds, if it can be read
 abbrev pub content_of : Format → ℕ → Result (List ℕ) DiskFault → Result Content DiskFault
@@ -28,8 +28,8 @@ content_of f i (Ok bytes) = Ok (content f i bytes)
 content_of f i (Err fault) = Err fault
 
 -- what the sector after the gap holds
-abbrev pub looked : Ring → List (List ℕ) → Result Content DiskFault
-looked r reading = content_of r.format (known_beyond r) (found reading (known_beyond r))
+abbrev pub look : Ring → List (List ℕ) → Result Content DiskFault
+look r reading = content_of r.format (known_beyond r) (found reading (known_beyond r))
 
 -- the record there that has to be carried, in a search that began with this top record
 abbrev pub carry_in : Ring → ℕ → ℕ → Result Content DiskFault → Result (Option Record) DiskFault
@@ -37,12 +37,12 @@ carry_in r s start (Ok c) = Ok (carry_of r.known s start c)
 carry_in r s start (Err fault) = Err fault
 
 -- the write of a carry and of the reservation itself, as the ring knows the gap and the next record
-abbrev pub known_carrying : Ring → Record → Step
-known_carrying r q =
+abbrev pub known_carry : Ring → Record → Step
+known_carry r q =
     record { work = Carry q.series; sector = known_gap r; entry = next_of r q.series q.end }
 
-abbrev pub known_reserving : Ring → Reserved → Step
-known_reserving r value =
+abbrev pub known_reservation : Ring → Reserved → Step
+known_reservation r value =
     record {
       work = Reservation value.series;
       sector = known_gap r;
@@ -50,13 +50,13 @@ known_reserving r value =
     }
 
 -- a disk's denial, with the work that it stopped
-abbrev pub stopped : Work → DiskFault → Result Reserved RingFault
-stopped work fault = Err (Stopped (record { work = work; fault = fault }))
+abbrev pub interruption : Work → DiskFault → Result Reserved RingFault
+interruption work fault = Err (Stopped (record { work = work; fault = fault }))
 
 -- what a reservation answers, by what the disk answered to its own write and flush
-abbrev pub told_of : Reserved → Result (Unit {0}) DiskFault → Result Reserved RingFault
-told_of value (Ok done) = Ok value
-told_of value (Err fault) = stopped (Reservation value.series) fault
+abbrev pub reservation_answer : Reserved → Result (Unit {0}) DiskFault → Result Reserved RingFault
+reservation_answer value (Ok done) = Ok value
+reservation_answer value (Err fault) = interruption (Reservation value.series) fault
 
 -- what an operation answers
 abbrev pub answer_to : Meaning → Op → Result (Unit {0}) DiskFault
@@ -69,7 +69,7 @@ module _ {D : Type 0} (moves : Moves D) (meaning : D → Meaning) where
   pub record Tries (d : D) (op : Op) (answer : Result (Unit {0}) DiskFault) (d' : D) : Type 0 where
     pub answers : answer_to (meaning d) op ≡ answer
     pub does :
-        MatchResult answer (λ _. Does (meaning d) op (meaning d')) (λ _. meaning d' ≡ meaning d)
+        MatchResult answer (λ _. Performs (meaning d) op (meaning d')) (λ _. meaning d' ≡ meaning d)
     pub goes : Move moves d op d'
 
   -- a record is written and noted, and then flushed; nothing follows a denial
@@ -93,24 +93,24 @@ module _ {D : Type 0} (moves : Moves D) (meaning : D → Meaning) where
       Ring → D → Result Reserved RingFault → Ring → D → Type 0 where
     unread :
         {r : Ring} {d : D} {fault : DiskFault} →
-        carry_in r value.series start (looked r (meaning d).reading) ≡ Err fault →
+        carry_in r value.series start (look r (meaning d).reading) ≡ Err fault →
         Runs value start r d (Err (Disk fault)) r d
     carries :
         {r between r' : Ring} {d d' after : D} {answer : Result Reserved RingFault} (q : Record) →
-        carry_in r value.series start (looked r (meaning d).reading) ≡ Ok (Some q) →
-        Appends r d (known_carrying r q) (Ok tt) between d' →
+        carry_in r value.series start (look r (meaning d).reading) ≡ Ok (Some q) →
+        Appends r d (known_carry r q) (Ok tt) between d' →
         Runs value start between d' answer r' after →
         Runs value start r d answer r' after
     stops :
         {r r' : Ring} {d after : D} {fault : DiskFault} (q : Record) →
-        carry_in r value.series start (looked r (meaning d).reading) ≡ Ok (Some q) →
-        Appends r d (known_carrying r q) (Err fault) r' after →
-        Runs value start r d (stopped (Carry q.series) fault) r' after
+        carry_in r value.series start (look r (meaning d).reading) ≡ Ok (Some q) →
+        Appends r d (known_carry r q) (Err fault) r' after →
+        Runs value start r d (interruption (Carry q.series) fault) r' after
     reserves :
         {r r' : Ring} {d after : D} (answer : Result (Unit {0}) DiskFault) →
-        carry_in r value.series start (looked r (meaning d).reading) ≡ Ok None →
-        Appends r d (known_reserving r value) answer r' after →
-        Runs value start r d (told_of value answer) r' after
+        carry_in r value.series start (look r (meaning d).reading) ≡ Ok None →
+        Appends r d (known_reservation r value) answer r' after →
+        Runs value start r d (reservation_answer value answer) r' after
 
   -- a reservation, as it is refused or not: one that is refused leaves the ring and the disk as they are
   unfoldable pub RunsUnlessRefused :
@@ -132,7 +132,7 @@ module _ {D : Type 0} (moves : Moves D) (meaning : D → Meaning) where
 
   -- a search of series s at its end: nothing is to be carried any more
   pub record RunsClear (s start : ℕ) (r : Ring) (d : D) (between : Ring) (d' : D) : Type 0 where
-    pub clear : carry_in between s start (looked between (meaning d').reading) ≡ Ok None
+    pub clear : carry_in between s start (look between (meaning d').reading) ≡ Ok None
     pub on : RunsOn s start r d between d'
 
   -- a reservation of this claim that is stopped at its own write
@@ -146,4 +146,5 @@ module _ {D : Type 0} (moves : Moves D) (meaning : D → Meaning) where
   RunsWritten claim start r d sector r' d' =
       (value : Reserved) → value.series ≡ claim.series → value.end ≡ claim.end →
       (answer : Result (Unit {0}) DiskFault) (after : D) →
-      Tries d' (settle sector) answer after → Runs value start r d (told_of value answer) r' after
+      Tries d' (settle sector) answer after →
+      Runs value start r d (reservation_answer value answer) r' after

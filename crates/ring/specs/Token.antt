@@ -1,5 +1,5 @@
 -- A reservation that was written, by what its flush answers, and the blocks that ranks are drawn from once it is flushed.
-use Rattle.std.specs.Prelude.{◌≡◌, ℕ, ◌+◌, ◌<◌, ◌≤◌, max, cond, List, map, Some, None, Ok, Err, Option, Result, ◌==◌, nat_lt, slice_index_or, slice_set}
+use Rattle.std.specs.Prelude.{◌≡◌, ℕ, ◌+◌, ◌<◌, ◌≤◌, max, if◌then◌else◌, List, map, Some, None, Ok, Err, Option, Result, ◌==◌, nat_lt, slice_index_or, slice_set}
 use Rattle.record.specs.declared.numbers.Rank.{Rank}
 use Rattle.disk.specs.declared.fault.DiskFault.{DiskFault}
 use Rattle.ring.specs.declared.token.Block.{Block}
@@ -10,9 +10,9 @@ use Rattle.ring.specs.declared.token.Unconfirmed.{Unconfirmed}
 use Rattle.ring.specs.declared.token.Written.{Written}
 
 -- it is confirmed, or comes back with the fault
-abbrev pub confirmed : Written → Result (Unit {0}) DiskFault → Result Reserved Unconfirmed
-confirmed w (Ok done) = Ok (record { series = w.claim.series; start = w.start; end = w.claim.end })
-confirmed w (Err fault) = Err (record { written = w; fault = fault })
+abbrev pub confirm : Written → Result (Unit {0}) DiskFault → Result Reserved Unconfirmed
+confirm w (Ok done) = Ok (record { series = w.claim.series; start = w.start; end = w.claim.end })
+confirm w (Err fault) = Err (record { written = w; fault = fault })
 
 -- a block that gives no rank
 abbrev pub empty_block : Rank → Block
@@ -34,42 +34,44 @@ with_block blocks s block = record { 0 = slice_set blocks.0 s block }
 abbrev pub block_ends : Blocks → List Rank
 block_ends blocks = map (λ (block : Block). block.end) blocks.0
 
--- a block with the ranks from a start up to an end: it goes on where it ends at the start, and begins there otherwise, but never
--- below its next rank
-abbrev pub extended : Rank → Rank → Block → Block
-extended start end b =
+-- a block with the ranks from a start up to an end: it goes on where it ends at the start, and begins there otherwise,
+-- but never below its next rank
+abbrev pub extend : Rank → Rank → Block → Block
+extend start end b =
     record {
-      next = cond (b.end.0 == start.0) b.next (record { 0 = max b.next.0 start.0 });
+      next = if b.end.0 == start.0 then b.next else record { 0 = max b.next.0 start.0 };
       end = end;
     }
 
 -- the blocks with the ranks of a reservation, which its own series takes over
-abbrev pub filled : Reserved → Blocks → Blocks
-filled r blocks = with_block blocks r.series (extended r.start r.end (block_in blocks r.series))
+abbrev pub fill : Reserved → Blocks → Blocks
+fill r blocks = with_block blocks r.series (extend r.start r.end (block_in blocks r.series))
 
 -- the rank that a block gives: the next one, but none below a least one, if that is below its end
 abbrev pub rank_of : Rank → Block → Option Rank
 rank_of least b =
-    cond (nat_lt (max b.next.0 least.0) b.end.0) (Some (record { 0 = max b.next.0 least.0 })) None
+    if nat_lt (max b.next.0 least.0) b.end.0
+    then Some (record { 0 = max b.next.0 least.0 })
+    else None
 
 -- what is drawn of a series
-abbrev pub drawn_as : ℕ → Option Rank → Option Drawn
-drawn_as s None = None
-drawn_as s (Some rank) = Some (record { series = s; rank = rank })
+abbrev pub drawn_rank : ℕ → Option Rank → Option Drawn
+drawn_rank s None = None
+drawn_rank s (Some rank) = Some (record { series = s; rank = rank })
 
-abbrev pub drawn : ℕ → Rank → Blocks → Option Drawn
-drawn s least blocks = drawn_as s (rank_of least (block_in blocks s))
+abbrev pub draw : ℕ → Rank → Blocks → Option Drawn
+draw s least blocks = drawn_rank s (rank_of least (block_in blocks s))
 
 -- a block that gave a rank, if it gave one: it goes on above that
-abbrev pub gone_on : Option Rank → Block → Block
-gone_on None b = b
-gone_on (Some rank) b = record { next = record { 0 = rank.0 + 1 }; end = b.end }
+abbrev pub after_rank : Option Rank → Block → Block
+after_rank None b = b
+after_rank (Some rank) b = record { next = record { 0 = rank.0 + 1 }; end = b.end }
 
 -- the blocks after a draw
-abbrev pub left_by : Option Drawn → Blocks → Blocks
-left_by None blocks = blocks
-left_by (Some d) blocks =
-    with_block blocks d.series (gone_on (Some d.rank) (block_in blocks d.series))
+abbrev pub after_draw : Option Drawn → Blocks → Blocks
+after_draw None blocks = blocks
+after_draw (Some d) blocks =
+    with_block blocks d.series (after_rank (Some d.rank) (block_in blocks d.series))
 
 -- a rank that may still come out of the block of a series
 abbrev pub Holds : Blocks → ℕ → ℕ → Type 0

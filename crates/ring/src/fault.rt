@@ -1,10 +1,12 @@
 // Why the ring denied a call.
-ghost use Rattle.std.specs.Prelude.{◌≡◌};
-ghost use Rattle.ring.specs.Faults.{with_work, numbered, of_disk, particulars, series_of};
+ghost use Rattle.std.specs.Prelude.{◌≡◌, Some};
+ghost use Rattle.ring.specs.Faults.{with_work, numbered, of_disk, particulars, series_of, work_text, interrupted_text, ring_fault_text};
 ghost use Rattle.ring.specs.declared.fault.RingFault.TheVariants.{Disk, Interrupted as Stopped};
 
 use disk::{DiskFault, Operation};
 use record::Rank;
+use std::error::Error;
+use std::fmt;
 
 // What was being written: a copy of another series' live record, or the reservation itself; and for which series.
 #[derive(Clone, Copy, PartialEq, Eq, Debug)]
@@ -41,8 +43,8 @@ pub enum RingFault {
     Interrupted(Interrupted),
 }
 
-// What a denial tells: its number and, as far as it has them, the operation that was denied, the sector, the work that was
-// stopped, and the series.
+// What a denial tells: its number and, as far as it has them, the operation that was denied, the sector, the work that
+// was stopped, and the series.
 #[derive(Clone, Copy, PartialEq, Eq, Debug)]
 pub struct Particulars {
     pub number: u8,
@@ -151,6 +153,60 @@ impl From<Interrupted> for RingFault {
         RingFault::Interrupted(stopped)
     }
 }
+
+// The work by name, and its series.
+impl fmt::Display for Work {
+    ghost output = { λ work. Some (work_text work) };
+
+    fn fmt<W: fmt::Write>(&self, f: &mut fmt::Formatter<W>) -> fmt::Result {
+        match *self {
+            Work::Carry(series) => write!(f, "carry of series {series}"),
+            Work::Reservation(series) => write!(f, "reservation of series {series}"),
+        }
+    }
+}
+
+// The work, and what the disk denied.
+impl fmt::Display for Interrupted {
+    ghost output = { λ stopped. Some (interrupted_text stopped) };
+
+    fn fmt<W: fmt::Write>(&self, f: &mut fmt::Formatter<W>) -> fmt::Result {
+        let Interrupted { work, fault } = *self;
+        write!(f, "{work} stopped: {fault}")
+    }
+}
+
+// What was denied, and why.
+impl fmt::Display for RingFault {
+    ghost output = { λ fault. Some (ring_fault_text fault) };
+
+    fn fmt<W: fmt::Write>(&self, f: &mut fmt::Formatter<W>) -> fmt::Result {
+        match *self {
+            RingFault::Size(sectors) => write!(f, "a disk has 10 to 2048 sectors, not {sectors}"),
+            RingFault::Foreign(sector) => {
+                write!(f, "sector {sector} is sound and no record of this server")
+            }
+            RingFault::LiveInGap(sector) => {
+                write!(
+                    f,
+                    "sector {sector} is to be written next and holds a live record"
+                )
+            }
+            RingFault::Series(series) => write!(f, "there is no series {series}"),
+            RingFault::End(end) => {
+                let end = end.0;
+                write!(f, "no reservation ends at {end}")
+            }
+            RingFault::Exhausted => f.write_str("sequence numbers run short"),
+            RingFault::Disk(fault) => write!(f, "{fault}"),
+            RingFault::Interrupted(stopped) => write!(f, "{stopped}"),
+        }
+    }
+}
+
+impl Error for Interrupted {}
+
+impl Error for RingFault {}
 
 // What the disk answered, a denial with the work that it stopped.
 pub(crate) fn during(work: Work, answer: Result<(), DiskFault>) -> Result<(), Interrupted>

@@ -1,11 +1,11 @@
 // What the ring knows of its sectors.
-ghost use Rattle.std.specs.Prelude.{◌≡◌, ◌&&◌, length, nat_eq, nat_lt, slice_set};
-ghost use Rattle.ring.specs.Ring.{newer, live_of, met, noted, next_known, carry_of, live_among, live_by, known_end};
+ghost use Rattle.std.specs.Prelude.{◌≡◌, length, slice_set};
+ghost use Rattle.ring.specs.Ring.{newer, live_of, meet, note, next_known, carry_of, live_among, is_live_by, holds_live_by, known_end};
 
 use record::{Content, Rank, Record, Sequence};
 
-// The live record of a series: its number and its end. Both are 0 where there is none: the rules give such a series the end 0, and
-// no record has the number 0, so an Option would tell nothing more.
+// The live record of a series: its number and its end. Both are 0 where there is none: such a series has the end 0, and
+// no record has the number 0.
 #[derive(Clone, Copy)]
 pub struct Live {
     pub number: Sequence,
@@ -90,8 +90,7 @@ impl Known {
         self.live(series).end
     }
 
-    // The live records, with another one for a series; as they are for a series above 7. After a get_mut in place of the test
-    // no proof knows the elements.
+    // The live records, with another one for a series; as they are for a series above 7.
     #[tactic(auto, using(std::proofs::lemmas::List::set_past))]
     fn with_live(self, series: u8, live: Live) -> [Live; 8]
         ensures { result ≡ slice_set self.lives series live }
@@ -105,7 +104,7 @@ impl Known {
 
     // What is known once one record more is met.
     pub(crate) fn meet(self, entry: Record) -> Known
-        ensures { result ≡ met self entry }
+        ensures { result ≡ meet self entry }
     {
         let live = newest(self.live(entry.series), Live::from(entry));
         Known {
@@ -116,7 +115,7 @@ impl Known {
 
     // What is known once a record is written that is newer than all others.
     pub(crate) fn note(self, entry: Record) -> Known
-        ensures { result ≡ noted self entry }
+        ensures { result ≡ note self entry }
     {
         Known {
             top: entry.sequence,
@@ -152,14 +151,14 @@ impl Known {
 
     // Whether a record is the live one of its series.
     pub(crate) fn is_live(self, entry: Record) -> bool
-        ensures { result ≡ (nat_lt entry.series 8 && nat_eq entry.sequence.0 (live_among self.lives entry.series).number.0) }
+        ensures { result ≡ is_live_by self entry }
     {
         entry.series < 8 && entry.sequence == self.live(entry.series).number
     }
 
     // Whether a sector holds a live record.
     pub(crate) fn holds_live(self, content: Content) -> bool
-        ensures { result ≡ live_by self content }
+        ensures { result ≡ holds_live_by self content }
     {
         matches!(content, Content::Record(entry) if self.is_live(entry))
     }

@@ -1,16 +1,16 @@
 // The ring over any disk.
-ghost use Rattle.std.specs.Prelude.{◌≡◌, ℕ, [], ◌∷◌, ◌+◌, ◌^◌, ◌<◌, IfOk, IfErr, Some, None, Ok, Err, MatchResult, slice_set};
+ghost use Rattle.std.specs.Prelude.{◌≡◌, ℕ, [], ◌∷◌, ◌+◌, ◌^◌, ◌<◌, ◌≤◌, IfOk, IfErr, Some, None, Ok, Err, MatchResult, slice_set};
 ghost use Rattle.ring.specs.Token.{empty_blocks};
-ghost use Rattle.ring.specs.Left.{end_of, ReservationLaws, TopsCounted};
+ghost use Rattle.ring.specs.Left.{end_of, AtMostSoMany, ReservationLaws, TopsCounted};
 ghost use Rattle.ring.specs.Faults.{with_work};
-ghost use Rattle.disk.specs.Meaning.{Meaning, at, count, answer_of, Flushed};
+ghost use Rattle.disk.specs.Meaning.{Meaning, at, count, answer_of};
 ghost use Rattle.disk.specs.declared.fault.Operation.TheVariants.{Write};
-ghost use Rattle.ring.specs.Operations.{Writes, Denied, Chain, write_and_flush};
-ghost use Rattle.ring.specs.Runs.{looked, known_carrying, Appends, RunsUnlessRefused, RunsShort, RunsClear, RunsStopped, RunsWritten};
-ghost use Rattle.ring.specs.Search.{GoesOn, Tried, MaySearch, Cleared, Stopped, MayReserve, Begun, Ended, refusal, admitted};
+ghost use Rattle.ring.specs.Operations.{Writes, Carries, Denied, Chain, write_and_flush};
+ghost use Rattle.ring.specs.Runs.{look, known_carry, Appends, RunsUnlessRefused, RunsShort, RunsClear, RunsStopped, RunsWritten};
+ghost use Rattle.ring.specs.Search.{GoesOn, Tried, MaySearch, ClearedWay, StoppedSearch, MayReserve, Begun, Ended, refusal, admit};
 ghost use Rattle.ring.specs.declared.fault.Work.TheVariants.{Carry};
 ghost use Rattle.record.specs.Sector.{content, encoded};
-ghost use Rattle.ring.specs.Ring.{named, known_gap, next_of, reserving, beyond, top, scanned, foreign_below, recovered, known_end, known_ends, Agrees};
+ghost use Rattle.ring.specs.Ring.{sector_of, known_gap, next_of, reservation_step, beyond, top, scan, foreign_below, recover, known_end, known_ends, Agrees};
 
 use crate::fault::{Interrupted, RingFault, Work, during};
 use crate::known::{Claim, Known};
@@ -27,7 +27,7 @@ pub struct Ring {
 
 // The sector that a sequence number names; the first where there is no sector.
 fn sector_of(number: u64, sectors: usize) -> usize
-    ensures { result ≡ named number sectors }
+    ensures { result ≡ sector_of number sectors }
 {
     number.checked_rem(sectors as u64).unwrap_or(0) as usize
 }
@@ -35,7 +35,8 @@ fn sector_of(number: u64, sectors: usize) -> usize
 // One pass over all sectors: what there is to know of them, or the lowest foreign one.
 fn scan<D: Disk>(disk: &D, format: Format) -> Result<Known, RingFault>
     requires { format.sectors ≡ count (D.meaning disk.now) }
-    ensures { result ≡ scanned format (D.meaning disk.now).reading (foreign_below format (D.meaning disk.now).reading (count (D.meaning disk.now))) }
+    ensures { let m = D.meaning disk.now in
+        result ≡ scan format m.reading (foreign_below format m.reading (count m)) }
 {
     let mut known = Known::NOTHING;
     for sector in 0..format.sectors {
@@ -49,12 +50,10 @@ fn scan<D: Disk>(disk: &D, format: Format) -> Result<Known, RingFault>
     Ok(known)
 }
 
-// The most writes and flushes of one reservation: seven carries and the reservation itself, two for each. Its clauses are the
-// laws of a reservation.
+// The most writes and flushes of one reservation: seven carries and the reservation itself, two for each.
 pub fn most_operations() -> u64
     ensures value { result ≡ 16 }
-    ensures laws { ReservationLaws }
-    ensures tops { TopsCounted }
+    ensures most { AtMostSoMany result }
 {
     2 * (7 + 1)
 }
@@ -62,7 +61,9 @@ pub fn most_operations() -> u64
 impl Ring {
     // Reads all sectors of a disk: the ring as they have it, or why there is none.
     pub fn recover<D: Disk>(disk: &D, tag: u8, top: Rank) -> Result<Ring, RingFault>
-        ensures answer { result ≡ recovered (record { tag = tag; top = top; sectors = count (D.meaning disk.now) }) (D.meaning disk.now).reading }
+        ensures answer { let m = D.meaning disk.now in
+            let format : Format = record { tag = tag; top = top; sectors = count m } in
+            result ≡ recover format m.reading }
         ensures agrees { top.0 < 2 ^ 53 → IfOk result (λ ring. Agrees ring (D.meaning disk.now)) }
     {
         let sectors = disk.sectors();
@@ -80,10 +81,11 @@ impl Ring {
         Ok(ring)
     }
 
-    // The highest sequence number of any record, 0 without one.
+    // The top record's sequence number, 0 without a record.
     pub fn top_record(&self) -> Sequence
         ensures value { result ≡ self.now.known.top }
-        ensures reads { (m : Meaning) → Agrees self.now m → result.0 ≡ top self.now.format m.reading }
+        ensures reads { (m : Meaning) → Agrees self.now m →
+            result.0 ≡ top self.now.format m.reading }
     {
         self.known.top
     }
@@ -91,7 +93,8 @@ impl Ring {
     // The end of a series: the first rank that is not reserved; 0 without a record, and for a series above 7.
     pub fn end(&self, series: u8) -> Rank
         ensures value { result ≡ known_end self.now.known series }
-        ensures reads { (m : Meaning) → Agrees self.now m → series < 8 → result.0 ≡ end_of self.now.format m.reading series }
+        ensures reads { (m : Meaning) → Agrees self.now m → series < 8 →
+            result.0 ≡ end_of self.now.format m.reading series }
     {
         self.known.end(series)
     }
@@ -112,8 +115,12 @@ impl Ring {
 
     // What the sector after the gap holds.
     pub(crate) fn look<D: Disk>(&self, disk: &D) -> Result<Content, DiskFault>
-        ensures looks { result ≡ looked self.now (D.meaning disk.now).reading }
-        ensures agrees { Agrees self.now (D.meaning disk.now) → top self.now.format (D.meaning disk.now).reading < 2 ^ 62 → result ≡ Ok (content self.now.format (beyond self.now.format (D.meaning disk.now).reading) (at (D.meaning disk.now).reading (beyond self.now.format (D.meaning disk.now).reading))) }
+        ensures looks { result ≡ look self.now (D.meaning disk.now).reading }
+        ensures agrees { let f = self.now.format in
+            let m = D.meaning disk.now in
+            let i = beyond f m.reading in
+            Agrees self.now m → top f m.reading ≤ LAST_SEQUENCE →
+            result ≡ Ok (content f i (at m.reading i)) }
     {
         let sector = sector_of(self.known.top.0.saturating_add(2), self.format.sectors);
         let bytes = disk.read(sector)?;
@@ -136,9 +143,16 @@ impl Ring {
         claim: Claim,
     ) -> Result<(), Interrupted>
         requires { gap ≡ known_gap self.old }
-        ensures answer { result ≡ with_work work (answer_of Write (D.meaning disk.old) (known_gap self.old)) }
-        ensures effect { MatchResult result (λ _. Writes self.old (D.meaning disk.old) claim.series claim.end self.new (D.meaning disk.new)) (λ _. (D.meaning disk.new ≡ D.meaning disk.old) × (self.new ≡ self.old)) }
-        ensures moves { D.moves.writes disk.old (known_gap self.old) (encoded self.old.format.tag (next_of self.old claim.series claim.end)) disk.new }
+        ensures answer { let m = D.meaning disk.old in
+            result ≡ with_work work (answer_of Write m (known_gap self.old)) }
+        ensures effect { let m = D.meaning disk.old in
+            let after = D.meaning disk.new in
+            MatchResult result
+            (λ _. Writes self.old m claim.series claim.end self.new after)
+            (λ _. (after ≡ m) × (self.new ≡ self.old)) }
+        ensures moves { let entry = next_of self.old claim.series claim.end in
+            let bytes = encoded self.old.format.tag entry in
+            D.moves.writes disk.old (known_gap self.old) bytes disk.new }
     {
         let entry = self.known.next(claim);
         during(work, disk.write(gap, &encode(self.format.tag, entry)))?;
@@ -149,12 +163,20 @@ impl Ring {
     // Carries a live record: writes it anew into the gap, and flushes.
     fn carry<D: Disk>(&mut self, disk: &mut D, entry: Record) -> Result<(), Interrupted>
         ensures work { IfErr result (λ stopped. stopped.work ≡ Carry entry.series) }
-        ensures effect { MatchResult result (λ _. (between : Meaning) × Writes self.old (D.meaning disk.old) entry.series entry.end self.new between × Flushed between (D.meaning disk.new)) (λ stopped. Denied self.old (D.meaning disk.old) entry.series entry.end stopped.fault self.new (D.meaning disk.new)) }
-        ensures moves { Chain D.moves disk.old (write_and_flush (known_gap self.old) (encoded self.old.format.tag (next_of self.old entry.series entry.end)) (answer_of Write (D.meaning disk.old) (known_gap self.old))) disk.new }
-        ensures appends { let step = known_carrying self.old entry in
+        ensures effect { let m = D.meaning disk.old in
+            let after = D.meaning disk.new in
+            MatchResult result
+            (λ _. Carries self.old m entry self.new after)
+            (λ x. Denied self.old m entry.series entry.end x.fault self.new after) }
+        ensures moves { let gap = known_gap self.old in
+            let bytes = encoded self.old.format.tag (next_of self.old entry.series entry.end) in
+            let answer = answer_of Write (D.meaning disk.old) gap in
+            Chain D.moves disk.old (write_and_flush gap bytes answer) disk.new }
+        ensures appends { let step = known_carry self.old entry in
             MatchResult result
             (λ _. Appends D.moves D.meaning self.old disk.old step (Ok tt) self.new disk.new)
-            (λ x. Appends D.moves D.meaning self.old disk.old step (Err x.fault) self.new disk.new) }
+            (λ x.
+            Appends D.moves D.meaning self.old disk.old step (Err x.fault) self.new disk.new) }
     {
         let claim = Claim::from(entry);
         let work = Work::Carry(claim.series);
@@ -163,12 +185,23 @@ impl Ring {
         during(work, disk.flush(gap))
     }
 
-    // Looks at the sector after the gap, and carries what is live there of another series, until nothing is; tells the gap.
+    // Looks at the sector after the gap, and carries what is live there of another series, until nothing is; tells the
+    // gap.
     fn clear_the_way<D: Disk>(&mut self, disk: &mut D, series: u8) -> Result<usize, RingFault>
-        requires { self.old.known.top.0 + 8 < 2 ^ 62 }
+        requires { self.old.known.top.0 + 8 ≤ LAST_SEQUENCE }
         ensures gap { IfOk result (λ gap. gap ≡ known_gap self.new) }
-        ensures search { MaySearch self.old (D.meaning disk.old) series → MatchResult result (λ _. Cleared self.old.format series (D.meaning disk.old) self.new (D.meaning disk.new)) (λ fault. Stopped self.old.format series (D.meaning disk.old) fault self.new (D.meaning disk.new)) }
-        ensures moves { MaySearch self.old (D.meaning disk.old) series → MatchResult result (λ _. GoesOn D.moves D.meaning self.old.format series disk.old (λ end. reserving self.old.format (D.meaning disk.new).reading series end ∷ []) disk.new) (λ _. (end : ℕ) → Tried D.moves D.meaning self.old.format series disk.old end disk.new) }
+        ensures search { let f = self.old.format in
+            let m = D.meaning disk.old in
+            let after = D.meaning disk.new in
+            MaySearch self.old m series → MatchResult result
+            (λ _. ClearedWay f series m self.new after)
+            (λ x. StoppedSearch f series m x self.new after) }
+        ensures moves { let f = self.old.format in
+            let reading = (D.meaning disk.new).reading in
+            let rest = λ (end : ℕ). reservation_step f reading series end ∷ [] in
+            MaySearch self.old (D.meaning disk.old) series → MatchResult result
+            (λ _. GoesOn D.moves D.meaning f series disk.old rest disk.new)
+            (λ _. (end : ℕ) → Tried D.moves D.meaning f series disk.old end disk.new) }
         ensures runs { let start = self.old.known.top.0 in
             MatchResult result
             (λ _. RunsClear D.moves D.meaning series start self.old disk.old self.new disk.new)
@@ -187,14 +220,24 @@ impl Ring {
 
     // Clears the way and writes the reservation, which is then to be confirmed or given up.
     fn begin<D: Disk>(&mut self, disk: &mut D, claim: Claim) -> Result<Written, RingFault>
-        requires { self.old.known.top.0 + 8 < 2 ^ 62 }
-        ensures begins { MayReserve self.old (D.meaning disk.old) claim.series claim.end → MatchResult result (λ written. Begun self.old.format claim.series claim.end (D.meaning disk.old) written self.new (D.meaning disk.new)) (λ fault. Ended self.old.format claim.series claim.end (D.meaning disk.old) (Err fault) self.new (D.meaning disk.new)) }
-        ensures moves { MayReserve self.old (D.meaning disk.old) claim.series claim.end → MatchResult result (λ written. (after : D) → D.moves.flushes disk.new written.sector after → Tried D.moves D.meaning self.old.format claim.series disk.old claim.end.0 after) (λ _. Tried D.moves D.meaning self.old.format claim.series disk.old claim.end.0 disk.new) }
+        requires { self.old.known.top.0 + 8 ≤ LAST_SEQUENCE }
+        ensures begins { let f = self.old.format in
+            let m = D.meaning disk.old in
+            let after = D.meaning disk.new in
+            MayReserve self.old m claim.series claim.end → MatchResult result
+            (λ w. Begun f claim.series claim.end m w self.new after)
+            (λ x. Ended f claim.series claim.end m (Err x) self.new after) }
+        ensures moves { let f = self.old.format in
+            MayReserve self.old (D.meaning disk.old) claim.series claim.end → MatchResult result
+            (λ w. (after : D) → D.moves.flushes disk.new w.sector after →
+            Tried D.moves D.meaning f claim.series disk.old claim.end.0 after)
+            (λ _. Tried D.moves D.meaning f claim.series disk.old claim.end.0 disk.new) }
         ensures claims { IfOk result (λ w. w.claim ≡ claim) }
         ensures starts { IfOk result (λ w. w.start ≡ known_end self.old.known claim.series) }
         ensures runs { let start = self.old.known.top.0 in
             MatchResult result
-            (λ w. RunsWritten D.moves D.meaning claim start self.old disk.old w.sector self.new disk.new)
+            (λ w.
+            RunsWritten D.moves D.meaning claim start self.old disk.old w.sector self.new disk.new)
             (λ x. RunsStopped D.moves D.meaning claim start self.old disk.old x self.new disk.new) }
     {
         let start = self.known.end(claim.series);
@@ -205,7 +248,8 @@ impl Ring {
 
     // What a reservation claims, if it may be made at all.
     fn admit(&self, series: u8, end: Rank) -> Result<Claim, RingFault>
-        ensures { result ≡ admitted (record { series = series; end = end }) (refusal self.now.format self.now.known.top.0 series end) }
+        ensures { let claim : Claim = record { series = series; end = end } in
+            result ≡ admit claim (refusal self.now.format self.now.known.top.0 series end) }
     {
         if end.0 == 0 || end.0 - 1 > self.format.top.0 {
             return Err(RingFault::End(end));
@@ -220,22 +264,36 @@ impl Ring {
     }
 
     // Reserves the ranks of a series up to a new end: carries what is in the way, writes the reservation and flushes it.
+    #[tactic(auto, using(crate::proofs::Leaves::reservation_laws, crate::proofs::Leaves::tops_counted))]
     pub fn reserve<D: Disk>(
         &mut self,
         disk: &mut D,
         series: u8,
         end: Rank,
     ) -> Result<Reserved, RingFault>
-        ensures refused { (fault : RingFault) → refusal self.old.format self.old.known.top.0 series end ≡ Some fault → (result ≡ Err fault) × (self.new ≡ self.old) × (D.meaning disk.new ≡ D.meaning disk.old) }
-        ensures reserves { Agrees self.old (D.meaning disk.old) → refusal self.old.format self.old.known.top.0 series end ≡ None → Ended self.old.format series end (D.meaning disk.old) result self.new (D.meaning disk.new) }
-        ensures untouched { (fault : RingFault) → refusal self.old.format self.old.known.top.0 series end ≡ Some fault → disk.new ≡ disk.old }
-        ensures moves { Agrees self.old (D.meaning disk.old) → refusal self.old.format self.old.known.top.0 series end ≡ None → Tried D.moves D.meaning self.old.format series disk.old end.0 disk.new }
+        ensures refused { let refused = refusal self.old.format self.old.known.top.0 series end in
+            (fault : RingFault) → refused ≡ Some fault →
+            (result ≡ Err fault) × (self.new ≡ self.old)
+            × (D.meaning disk.new ≡ D.meaning disk.old) }
+        ensures reserves { let refused = refusal self.old.format self.old.known.top.0 series end in
+            let m = D.meaning disk.old in
+            Agrees self.old m → refused ≡ None →
+            Ended self.old.format series end m result self.new (D.meaning disk.new) }
+        ensures untouched { let refused = refusal self.old.format self.old.known.top.0 series end in
+            (fault : RingFault) → refused ≡ Some fault → disk.new ≡ disk.old }
+        ensures moves { let refused = refusal self.old.format self.old.known.top.0 series end in
+            Agrees self.old (D.meaning disk.old) → refused ≡ None →
+            Tried D.moves D.meaning self.old.format series disk.old end.0 disk.new }
         ensures ends { Agrees self.old (D.meaning disk.old) →
-            IfOk result (λ _. known_ends self.new.known ≡ slice_set (known_ends self.old.known) series end) }
+            IfOk result (λ _.
+            known_ends self.new.known ≡ slice_set (known_ends self.old.known) series end) }
         ensures runs { let refused = refusal self.old.format self.old.known.top.0 series end in
             let start = known_end self.old.known series in
             let value : Reserved = record { series = series; start = start; end = end } in
-            RunsUnlessRefused D.moves D.meaning refused value self.old disk.old result self.new disk.new }
+            RunsUnlessRefused D.moves D.meaning refused value
+            self.old disk.old result self.new disk.new }
+        ensures laws { ReservationLaws }
+        ensures tops { TopsCounted }
     {
         let claim = self.admit(series, end)?;
         let written = self.begin(disk, claim)?;

@@ -3,7 +3,7 @@ ghost use Rattle.std.specs.Prelude.{◌≡◌, ℕ, ◌<◌, ◌⊎◌, MatchRes
 ghost use Rattle.disk.specs.Meaning.{answer_of, Flushed};
 ghost use Rattle.disk.specs.declared.fault.Operation.TheVariants.{Flush};
 ghost use Rattle.ring.specs.Ring.{known_ends};
-ghost use Rattle.ring.specs.Token.{confirmed, empty_block, empty_blocks, block_in, extended, filled, rank_of, drawn, gone_on, left_by, Holds, Covers};
+ghost use Rattle.ring.specs.Token.{confirm, empty_block, empty_blocks, block_in, extend, fill, rank_of, draw, after_rank, after_draw, Holds, Covers};
 ghost use Rattle.ring.specs.declared.fault.Work.TheVariants.{Reservation};
 
 use crate::fault::{Interrupted, Work};
@@ -11,8 +11,8 @@ use crate::known::{Claim, Known};
 use disk::{Disk, DiskFault};
 use record::Rank;
 
-// A reservation that is written and not yet flushed: what it claims, the first rank that is newly reserved, and the sector of
-// its record. No rank can be drawn from it, and it cannot be let go: it is confirmed by a flush, or given up by name.
+// A reservation whose record is written and not flushed: what it claims, the first rank that is newly reserved, and the
+// sector of its record. No rank can be drawn from it, and it cannot be let go: it is confirmed by a flush, or given up.
 pub struct Written {
     claim: Claim,
     start: Rank,
@@ -25,8 +25,8 @@ pub struct Unconfirmed {
     fault: DiskFault,
 }
 
-// A reservation that is flushed: the ranks of the series from the start up to below the end are newly reserved. Only `confirm`
-// makes one. It is used up by filling blocks with it.
+// A reservation that is flushed: the ranks of the series from the start up to below the end are newly reserved. Only
+// `confirm` makes one. It is used up by filling blocks with it.
 #[derive(PartialEq, Eq, Debug)]
 pub struct Reserved {
     series: u8,
@@ -41,8 +41,8 @@ struct Block {
     end: Rank,
 }
 
-// The blocks in hand of all eight series, in their order. They can neither be copied nor cloned, and a reservation fills the
-// block of its own series, so that no rank comes out of two blocks.
+// The blocks in hand of all eight series, in their order. They can neither be copied nor cloned, and a reservation fills
+// the block of its own series, so that no rank comes out of two blocks.
 #[derive(Drop)]
 pub struct Blocks([Block; 8]);
 
@@ -67,8 +67,11 @@ impl Written {
 
     // Flushes the reservation. Where the disk denies that, the reservation comes back, to be given up.
     pub(crate) fn confirm<D: Disk>(self, disk: &mut D) -> Result<Reserved, Unconfirmed>
-        ensures answer { result ≡ confirmed self (answer_of Flush (D.meaning disk.old) self.sector) }
-        ensures effect { MatchResult result (λ _. Flushed (D.meaning disk.old) (D.meaning disk.new)) (λ _. D.meaning disk.new ≡ D.meaning disk.old) }
+        ensures answer { let m = D.meaning disk.old in
+            result ≡ confirm self (answer_of Flush m self.sector) }
+        ensures effect { let m = D.meaning disk.old in
+            let after = D.meaning disk.new in
+            MatchResult result (λ _. Flushed m after) (λ _. after ≡ m) }
         ensures moves { D.moves.flushes disk.old self.sector disk.new }
     {
         // Each arm spends the token: it is taken apart, or handed on.
@@ -93,7 +96,8 @@ impl Written {
 impl Unconfirmed {
     // Gives the reservation up: what was written may stand after a cut, or not.
     pub(crate) fn give_up(self) -> Interrupted
-        ensures { result ≡ record { work = Reservation self.written.claim.series; fault = self.fault } }
+        ensures { let work = Reservation self.written.claim.series in
+            result ≡ record { work = work; fault = self.fault } }
     {
         let Unconfirmed { written, fault } = self;
         let Written {
@@ -127,7 +131,7 @@ impl Block {
 
     // Takes over the ranks from a start up to an end: it goes on where it ends at the start, and begins there otherwise.
     fn extend(&mut self, start: Rank, end: Rank)
-        ensures { self.new ≡ extended start end self.old }
+        ensures { self.new ≡ extend start end self.old }
     {
         if self.end != start {
             self.next = self.next.max(start);
@@ -138,7 +142,7 @@ impl Block {
     // Gives the next rank, but none below a least one; none at or above the end.
     fn draw(&mut self, least: Rank) -> Option<Rank>
         ensures drawn { result ≡ rank_of least self.old }
-        ensures rest { self.new ≡ gone_on result self.old }
+        ensures rest { self.new ≡ after_rank result self.old }
     {
         let end = self.end.0;
         let rank = self.next.max(least);
@@ -180,9 +184,9 @@ impl Blocks {
 
     // Takes over the ranks that were reserved, into the block of their series.
     pub fn fill(&mut self, reserved: Reserved)
-        ensures filled { self.new ≡ filled reserved self.old }
-        ensures only { (s rank : ℕ) →
-            Holds self.new s rank → Holds self.old s rank ⊎ Covers reserved s rank }
+        ensures filled { self.new ≡ fill reserved self.old }
+        ensures only { (s rank : ℕ) → Holds self.new s rank →
+            Holds self.old s rank ⊎ Covers reserved s rank }
     {
         let Reserved { series, start, end } = reserved;
         if series < 8 {
@@ -190,13 +194,13 @@ impl Blocks {
         }
     }
 
-    // Draws the next rank of a series, but none below a least one; none at or above the end, and none of a series above 7.
+    // Draws the next rank of a series, but none below a least one; none at or above the end, none of a series above 7.
     pub fn draw(&mut self, series: u8, least: Rank) -> Option<Drawn>
-        ensures drawn { result ≡ drawn series least self.old }
-        ensures rest { self.new ≡ left_by result self.old }
+        ensures drawn { result ≡ draw series least self.old }
+        ensures rest { self.new ≡ after_draw result self.old }
         ensures held { IfSome result (λ d. Holds self.old d.series d.rank.0) }
-        ensures once { IfSome result
-            (λ d. (rank : ℕ) → Holds self.new d.series rank → d.rank.0 < rank) }
+        ensures once { IfSome result (λ d.
+            (rank : ℕ) → Holds self.new d.series rank → d.rank.0 < rank) }
         ensures only { (s rank : ℕ) → Holds self.new s rank → Holds self.old s rank }
     {
         if series >= 8 {

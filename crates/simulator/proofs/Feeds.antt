@@ -10,13 +10,13 @@ use Rattle.std.specs.declared.ops.ControlFlow.TheVariants.{Continue, Break}
 use Rattle.history.specs.declared.calls.Call.{Call}
 use Rattle.history.specs.declared.calls.Turn.{Turn}
 use Rattle.simulator.specs.Calls.{call_by, turn_in, added, Extends}
-use Rattle.simulator.specs.Feeds.{Holds, IsBegun, Takes, held_row, Answers, GoesOn, Stops, Ends}
-use Rattle.simulator.specs.Files.{Flow, flow_after, unless_broken, rows_after, rows_of, last_run, begun as begun_run, print_of_file, FileServed}
+use Rattle.simulator.specs.Feeds.{HoldsStart, IsBegun, TakesRows, held_row, AnswersHeld, ReadsOn, StopsRun, Ends}
+use Rattle.simulator.specs.Files.{Flow, flow_after, unless_broken, rows_after, rows_of, last_run, first_run, print_of_file, FileServed}
 use Rattle.simulator.specs.Histories.{RunServed}
 use Rattle.simulator.specs.Lines.{line_end, up_to, first_bytes, ended_if, lines_from, lines_of, held}
 use Rattle.simulator.specs.Request.{command_in, fields_in}
 use Rattle.simulator.specs.Stages.{View}
-use Rattle.simulator.specs.Steps.{Done, denied, asked, step_of}
+use Rattle.simulator.specs.Steps.{Done, denial_done, command_done, step_of}
 use Rattle.simulator.specs.Takes.{Run, run_of, Row, row_of, run_after, print_of, turn_of, Taken, taken_by, counted, ended_by}
 use Rattle.simulator.specs.declared.answer.Answer.{Answer}
 use Rattle.simulator.specs.declared.answer.Denial.{Denial}
@@ -29,8 +29,8 @@ use Rattle.simulator.proofs.Enough.{tells_as_much}
 -- a line does what its first 22 bytes do
 same_step : (v : View) (line : List ℕ) → step_of v (take 22 line) ≡ step_of v line
 same_step v line =
-    ap (λ c. asked v c (λ command. fields_in command (take 22 line))) (tells_as_much.command line)
-    ∙ ap (asked v (command_in line)) (λ i command. tells_as_much.fields command line i)
+    ap (λ c. command_done v c (λ command. fields_in command (take 22 line))) (tells_as_much.command line)
+    ∙ ap (command_done v (command_in line)) (λ i command. tells_as_much.fields command line i)
 
 same_row : (run : Run) (line : List ℕ) → row_of run (take 22 line) ≡ row_of run line
 same_row run line =
@@ -38,7 +38,7 @@ same_row run line =
     ap (λ c. call_by c (λ command. fields_in command (take 22 line))) (tells_as_much.command line)
     ∙ ap (call_by (command_in line)) (λ i command. tells_as_much.fields command line i) in
     let done =
-    ap (λ (d : Done). ended_by (cond (leb (counted run.taken) 999999) d (denied TooMany run.view))) (same_step run.view line) in
+    ap (λ (d : Done). ended_by (cond (leb (counted run.taken) 999999) d (denial_done TooMany run.view))) (same_step run.view line) in
     same_parts (counted run.taken) call done
   where
     same_parts :
@@ -122,26 +122,26 @@ module _ (line rest more : List ℕ) (n : ℕ) (ends : line_end rest ≡ Some n)
 
   module _ (f f' : Feed) (print print' : List ℕ) (same : held f.partial ≡ take 22 (take 22 line ++ first_bytes rest)) where
     by_flow :
-        (flow : Flow) → Answers f print flow f' print' →
+        (flow : Flow) → AnswersHeld f print flow f' print' →
         rows_of (lines_from (rest ++ more) line) (run_of f.simulator) ≡ held_row f ∷ unless_broken next (held_row f) flow
     by_flow flow a =
         tells_line (run_of f.simulator) (held f.partial) same
         ∙ ap (λ (x : Flow). held_row f ∷ unless_broken next (held_row f) x) (sym a.flows)
 
     pub run_goes_on :
-        Answers f print (Continue tt) f' print' →
+        AnswersHeld f print (Continue tt) f' print' →
         rows_of (lines_from (rest ++ more) line) (run_of f.simulator) ≡ held_row f ∷ next (run_of f'.simulator)
     run_goes_on a = by_flow (Continue tt) a ∙ ap (λ (r : Run). held_row f ∷ next r) (sym a.takes.run)
 
     pub run_stops :
-        Answers f print (Break tt) f' print' →
+        AnswersHeld f print (Break tt) f' print' →
         rows_of (lines_from (rest ++ more) line) (run_of f.simulator) ≡ held_row f ∷ []
     run_stops a = by_flow (Break tt) a
 
 -- bytes without a line feed are held
 pub still_holds :
-    (partial partial' : Partial) (line rest : List ℕ) → Holds partial line → line_end rest ≡ None →
-    held partial' ≡ take 22 (held partial ++ first_bytes rest) → Holds partial' (line ++ rest)
+    (partial partial' : Partial) (line rest : List ℕ) → HoldsStart partial line → line_end rest ≡ None →
+    held partial' ≡ take 22 (held partial ++ first_bytes rest) → HoldsStart partial' (line ++ rest)
 still_holds partial partial' line rest holds none filled =
     filled
     ∙ ap (λ (xs : List ℕ). take 22 (xs ++ first_bytes rest)) holds
@@ -155,7 +155,7 @@ nothing_follows row (Break done) = refl
 nothing_follows row (Continue done) = refl
 
 pub last_row :
-    (run : Run) (partial : Partial) (line : List ℕ) → Holds partial line → (length (held partial) ≡ 0 → ⊥) →
+    (run : Run) (partial : Partial) (line : List ℕ) → HoldsStart partial line → (length (held partial) ≡ 0 → ⊥) →
     row_of run (held partial) ∷ [] ≡ rows_of (lines_from [] line) run
 unfolding lines_from rows_of
 last_row run partial [] holds some = absurd (some (ap length holds))
@@ -165,7 +165,7 @@ last_row run partial (b ∷ bytes) holds some =
     ∙ sym (ap (λ (rows : List Row). row ∷ rows) (nothing_follows row (flow_after row.done.answer)))
 
 pub no_row :
-    (run : Run) (partial : Partial) (line : List ℕ) → Holds partial line → length (held partial) ≡ 0 →
+    (run : Run) (partial : Partial) (line : List ℕ) → HoldsStart partial line → length (held partial) ≡ 0 →
     [] ≡ rows_of (lines_from [] line) run
 unfolding lines_from rows_of
 no_row run partial [] holds none = refl
@@ -173,7 +173,7 @@ no_row run partial (b ∷ bytes) holds none =
     absurd (let e : length (take 22 (b ∷ bytes)) ≡ 0 = sym (ap length holds) ∙ none in omega (arith, e))
 
 -- no line is taken
-pub takes_none : (s : Simulator) (print : List ℕ) → Takes s print [] s print
+pub takes_none : (s : Simulator) (print : List ℕ) → TakesRows s print [] s print
 takes_none s print =
     record {
       run = refl;
@@ -191,7 +191,7 @@ pub takes_one :
     ◌≡◌ {A = Taken} (record { answer = answer; run = run_of s'; print = columns })
     (taken_by (run_of s) line (replicate 34 0)) →
     Extends (RunServed s.stage) (turn_in line answer) (RunServed s'.stage) →
-    Takes s print (row_of (run_of s) line ∷ []) s' (print ++ columns)
+    TakesRows s print (row_of (run_of s) line ∷ []) s' (print ++ columns)
 takes_one s s' line print columns answer took serves =
     let row = row_of (run_of s) line in
     record {
@@ -210,8 +210,8 @@ after-append run [] more = refl
 after-append run (row ∷ rows) more = after-append (run_after row) rows more
 
 pub takes_more :
-    {s t u : Simulator} {print print' print'' : List ℕ} {rows more : List Row} → Takes s print rows t print' →
-    Takes t print' more u print'' → Takes s print (rows ++ more) u print''
+    {s t u : Simulator} {print print' print'' : List ℕ} {rows more : List Row} → TakesRows s print rows t print' →
+    TakesRows t print' more u print'' → TakesRows s print (rows ++ more) u print''
 takes_more {s} {t} {u} {print} {print'} {print''} {rows} {more} first second =
     record {
       run =
@@ -237,29 +237,29 @@ module _ (memory file print : List ℕ) (f : Feed) (begun : IsBegun memory f) wh
 
   printed :
       (rows : List Row) (s : Simulator) (print' : List ℕ) → rows_of (lines_of (file ++ [])) (run_of f.simulator) ≡ rows →
-      Takes f.simulator print rows s print' → Printed print'
+      TakesRows f.simulator print rows s print' → Printed print'
   printed rows s print' all takes =
-      let same : rows ≡ rows_of (lines_of file) (begun_run memory) =
+      let same : rows ≡ rows_of (lines_of file) (first_run memory) =
       sym all
       ∙ ap (λ (xs : List ℕ). rows_of (lines_of xs) (run_of f.simulator)) (append-nil file)
       ∙ ap (rows_of (lines_of file)) begun.run in (
         takes.prints ∙ ap (λ (x : List Row). print ++ flat_map print_of x) same,
         record {
           stage = s.stage;
-          comes_to = ap (λ (r : Run). r.view) (takes.run ∙ ap (λ (r : Run). last_run r rows) begun.run ∙ ap (last_run (begun_run memory)) same);
+          comes_to = ap (λ (r : Run). r.view) (takes.run ∙ ap (λ (r : Run). last_run r rows) begun.run ∙ ap (last_run (first_run memory)) same);
           served =
               subst (λ (x : List Row). RunServed s.stage (filter_map turn_of x)) same (takes.serves [] begun.served);
         },
       )
 
   pub file_ends :
-      (f'' : Feed) {f' : Feed} {print' print'' : List ℕ} → GoesOn f file print f' [] print' → Ends f' print' f'' print'' →
+      (f'' : Feed) {f' : Feed} {print' print'' : List ℕ} → ReadsOn f file print f' [] print' → Ends f' print' f'' print'' →
       Printed print''
   file_ends f'' {f'} {print'} {print''} goes_on ends =
       let read = goes_on [] begun.holds in
       printed _ f''.simulator print'' (read.splits []) (takes_more read.takes (ends read.unended read.holds))
 
-  pub file_stops : {f' : Feed} {print' : List ℕ} → Stops f file print f' print' → Printed print'
+  pub file_stops : {f' : Feed} {print' : List ℕ} → StopsRun f file print f' print' → Printed print'
   file_stops {f'} {print'} stops =
       let read = stops [] begun.holds in
       printed read.rows f'.simulator print' (read.all []) read.takes

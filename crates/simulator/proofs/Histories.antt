@@ -19,7 +19,7 @@ use Rattle.simulator.specs.Calls.{answer_in, turn_for, Extends}
 use Rattle.simulator.specs.Devices.{meaning_of, device_moves}
 use Rattle.simulator.specs.Histories.{HasServed, IsReached, WithTurn, Lengthens}
 use Rattle.simulator.specs.Kinds.{numbering_of}
-use Rattle.simulator.specs.Steps.{given, woken_up}
+use Rattle.simulator.specs.Steps.{give_answer, woken_up}
 use Rattle.simulator.specs.declared.answer.Answer.{Answer}
 use Rattle.simulator.specs.declared.answer.Denial.{Denial}
 use Rattle.simulator.specs.declared.any_kind.AnyKind.{AnyKind}
@@ -66,7 +66,7 @@ put_together kind kind' first disk state turns same_kind same is before =
     (first_reached kind kind' first first disk state [] same_kind same is (refl, refl))
 
 -- what the answer to a line tells of the server's
-given_told : (series : ℕ) (r : Result Identifier ServerFault) → answer_in (given series r) ≡ Some (OfGive r)
+given_told : (series : ℕ) (r : Result Identifier ServerFault) → answer_in (give_answer series r) ≡ Some (OfGive r)
 given_told series (Ok identifier) = refl
 given_told series (Err fault) = refl
 
@@ -77,7 +77,7 @@ woken_told (Err fault) = refl
 -- one call more, by the server's own relations
 module _ (kind : AnyKind) (state after : State) (d d' : Device) (f : Fields) (answer : Result Answer Denial) where
   pub request_reached :
-      (r : Result Identifier ServerFault) → answer ≡ given f.a r →
+      (r : Result Identifier ServerFault) → answer ≡ give_answer f.a r →
       Gave (numbering_of kind) state (meaning_of d) (min f.a 255) (record { 0 = f.b }) r after (meaning_of d') →
       Chain device_moves d (tries (numbering_of kind) state (meaning_of d) (one (min f.a 255) (record { 0 = f.b }))) d' →
       Lengthens (IsReached kind state d) (turn_for Give f answer) (IsReached kind after d')

@@ -1,7 +1,7 @@
 // A request file that comes in pieces: the run, and the line that has not ended.
 ghost use Rattle.std.specs.Prelude.{◌≡◌, ◌≤◌, [], length, drop, IfOk, OnOk};
 ghost use Rattle.std.specs.ControlFlow.{MatchControlFlow};
-ghost use Rattle.simulator.specs.Feeds.{Answers, GoesOn, Stops, Ends, IsBegun};
+ghost use Rattle.simulator.specs.Feeds.{AnswersHeld, ReadsOn, StopsRun, Ends, IsBegun};
 ghost use Rattle.simulator.specs.Files.{flow_after};
 
 use crate::answer::{Answer, Denial};
@@ -49,7 +49,8 @@ impl<'a> Feed<'a> {
 
     // Takes the line that is held, and appends its print. Breaks where the run stops.
     fn answer(&mut self, print: &mut Vec<u8>) -> Result<ControlFlow<()>, AllocError>
-        ensures { IfOk result (λ flow. Answers self.old print.old.items flow self.new print.new.items) }
+        ensures { IfOk result
+            (λ flow. AnswersHeld self.old print.old.items flow self.new print.new.items) }
     {
         let mut columns = [0; PRINT_BYTES];
         let answer = self.simulator.take(self.partial.line(), &mut columns);
@@ -62,8 +63,8 @@ impl<'a> Feed<'a> {
     // ended. Breaks where the run stops.
     pub fn feed(&mut self, piece: &[u8], print: &mut Vec<u8>) -> Result<ControlFlow<()>, AllocError>
         ensures { IfOk result (λ flow. MatchControlFlow flow
-            (λ _. GoesOn self.old piece.now print.old.items self.new [] print.new.items)
-            (λ _. Stops self.old piece.now print.old.items self.new print.new.items)) }
+            (λ _. ReadsOn self.old piece.now print.old.items self.new [] print.new.items)
+            (λ _. StopsRun self.old piece.now print.old.items self.new print.new.items)) }
     {
         let mut rest = piece;
         while let Some(count) = self.partial.fill(rest) {

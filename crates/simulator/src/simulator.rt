@@ -6,7 +6,7 @@ ghost use Rattle.simulator.specs.Devices.{meaning_of, make_of};
 ghost use Rattle.simulator.specs.Histories.{HasServed, RunServed, IsReached, RunReached, Lengthens};
 ghost use Rattle.simulator.specs.Stages.{view, awaits_disk, memory_of};
 ghost use Rattle.simulator.specs.Steps.{step_of, done_on, requested, cut_off};
-ghost use Rattle.simulator.specs.Takes.{run_of, taken_by, numbered, ended_by, stage_bytes};
+ghost use Rattle.simulator.specs.Takes.{run_of, taken_by, by_number, ended_by, stage_bytes};
 ghost use Rattle.simulator.specs.declared.request.Command.TheVariants.{Give, Cut};
 
 use crate::answer::{Answer, Denial, columns_of};
@@ -72,7 +72,8 @@ fn cut(server: &mut Server<Device<'_>, AnyKind>, fields: Fields) -> Result<Answe
         (HasServed server.new.kind server.new.state server.new.disk) }
     ensures cuts { (spare : List ℕ) →
         done_on result server.new.kind server.new.state server.new.disk spare
-        ≡ cut_off (make_of server.old.disk) server.old.kind (meaning_of server.old.disk) spare fields }
+        ≡ cut_off (make_of server.old.disk) server.old.kind
+        (meaning_of server.old.disk) spare fields }
 {
     server
         .cut(fields.a, fields.b)
@@ -99,9 +100,13 @@ impl<'a> Simulator<'a> {
         ensures takes { record { answer = result; run = run_of self.new; print = print.new }
             ≡ taken_by (run_of self.old) line.now print.old }
         ensures extends { Lengthens
-            (RunReached self.old.stage) (turn_in line.now result) (RunReached self.new.stage) }
+            (RunReached self.old.stage)
+            (turn_in line.now result)
+            (RunReached self.new.stage) }
         ensures serves { Extends
-            (RunServed self.old.stage) (turn_in line.now result) (RunServed self.new.stage) }
+            (RunServed self.old.stage)
+            (turn_in line.now result)
+            (RunServed self.new.stage) }
         ensures memory { stage_bytes self.new.stage ≡ memory_of (view self.new.stage) }
         ensures numbers { NumbersInColumns }
     {
@@ -118,11 +123,15 @@ impl<'a> Simulator<'a> {
     fn answer(&mut self, line: &[u8]) -> Result<Answer, Denial>
         ensures count { self.new.taken ≡ self.old.taken }
         ensures extends { Lengthens
-            (RunReached self.old.stage) (turn_in line.now result) (RunReached self.new.stage) }
+            (RunReached self.old.stage)
+            (turn_in line.now result)
+            (RunReached self.new.stage) }
         ensures serves { Extends
-            (RunServed self.old.stage) (turn_in line.now result) (RunServed self.new.stage) }
+            (RunServed self.old.stage)
+            (turn_in line.now result)
+            (RunServed self.new.stage) }
         ensures answers { record { answer = result; after = view self.new.stage }
-            ≡ ended_by (numbered self.old.taken (view self.old.stage) line.now) }
+            ≡ ended_by (by_number self.old.taken (view self.old.stage) line.now) }
     {
         let answer = if self.taken > LAST_LINE {
             Err(Denial::TooMany)
@@ -138,9 +147,13 @@ impl<'a> Simulator<'a> {
     fn step(&mut self, line: &[u8]) -> Result<Answer, Denial>
         ensures count { self.new.taken ≡ self.old.taken }
         ensures extends { Lengthens
-            (RunReached self.old.stage) (turn_in line.now result) (RunReached self.new.stage) }
+            (RunReached self.old.stage)
+            (turn_in line.now result)
+            (RunReached self.new.stage) }
         ensures serves { Extends
-            (RunServed self.old.stage) (turn_in line.now result) (RunServed self.new.stage) }
+            (RunServed self.old.stage)
+            (turn_in line.now result)
+            (RunServed self.new.stage) }
         ensures steps { record { answer = result; after = view self.new.stage }
             ≡ step_of (view self.old.stage) line.now }
     {

@@ -1,5 +1,5 @@
 -- The trials of a disk, and how many of them left what.
-use Rattle.std.specs.Prelude.{ℕ, ◌-◌, ◌^◌, Bool, true, false, cond, List, ◌++◌, codes, length, filter, ◌==◌}
+use Rattle.std.specs.Prelude.{ℕ, ◌-◌, ◌^◌, Bool, true, false, if◌then◌else◌, List, ◌++◌, codes, length, filter, ◌==◌}
 use Rattle.std.specs.Fmt.{decimal, format_spec, styled_decimal}
 use Rattle.record.specs.declared.sector.Content.{Content}
 use Rattle.record.specs.declared.sector.Content.TheVariants.{Blank, Foreign, Record as Holds}
@@ -16,25 +16,29 @@ left_by Torn flushed tear = left_torn flushed tear
 left_by Faithful flushed tear = left_faithful
 
 -- whether the newer record stands after the cut: on a torn disk where it was flushed, on a faithful disk in any case
-abbrev pub stands : Device → Bool → Bool
-stands Torn flushed = flushed
-stands Faithful flushed = true
+abbrev pub newer_stands : Device → Bool → Bool
+newer_stands Torn flushed = flushed
+newer_stands Faithful flushed = true
 
 -- one trial, told whole
 abbrev pub trial_of : Device → Bool → ℕ → Trial
-trial_of device flushed tear = record { device = device; flushed = flushed; tear = tear; left = left_by device flushed tear }
+trial_of device flushed tear =
+    record {
+      device = device;
+      flushed = flushed;
+      tear = tear;
+      left = left_by device flushed tear;
+    }
 
 -- a sector holds the record of this number
 abbrev pub holds : ℕ → Content → Bool
-holds number Blank = false
-holds number Foreign = false
 holds number (Holds r) = r.sequence.0 == number
+holds number _ = false
 
 -- a sector holds nothing sound
 abbrev pub is_blank : Content → Bool
 is_blank Blank = true
-is_blank Foreign = false
-is_blank (Holds r) = false
+is_blank _ = false
 
 -- a sector was left with this outcome
 abbrev pub leaves : Outcome → Content → Bool
@@ -51,17 +55,22 @@ abbrev pub in_two_columns : ℕ → List ℕ
 in_two_columns n = styled_decimal (format_spec 32 3 0 2 (2 ^ 64 - 1)) n
 
 -- the name of the record with this sequence number
-abbrev pub name_of : ℕ → List ℕ
-name_of number =
-    cond (number == older.sequence.0) (codes "older") (cond (number == newer.sequence.0) (codes "newer") (codes "another"))
+abbrev pub record_name : ℕ → List ℕ
+record_name number =
+    if number == older.sequence.0 then codes "older"
+    else if number == newer.sequence.0 then codes "newer"
+    else codes "another"
 
 -- what the sector reads as, in words
-abbrev pub told : Content → List ℕ
-told Blank = codes "blank"
-told Foreign = codes "foreign"
-told (Holds r) =
-    name_of r.sequence.0 ++ (codes " record, sequence number " ++ (decimal r.sequence.0 ++ (codes ", end " ++ decimal r.end.0)))
+abbrev pub content_text : Content → List ℕ
+content_text Blank = codes "blank"
+content_text Foreign = codes "foreign"
+content_text (Holds r) =
+    record_name r.sequence.0
+    ++ (codes " record, sequence number "
+    ++ (decimal r.sequence.0
+    ++ (codes ", end " ++ decimal r.end.0)))
 
 -- the line of a trial: its tear, and what the sector reads as
 abbrev pub line_of : Trial → List ℕ
-line_of t = codes "tear " ++ (in_two_columns t.tear ++ (codes ": " ++ told t.left))
+line_of t = codes "tear " ++ (in_two_columns t.tear ++ (codes ": " ++ content_text t.left))

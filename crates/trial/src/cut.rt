@@ -2,7 +2,8 @@
 ghost use Rattle.std.specs.Prelude.{◌≡◌, T, Ok};
 ghost use Rattle.record.specs.declared.sector.Content.TheVariants.{Record as Holds};
 ghost use Rattle.disk.specs.Memory.{sectors};
-ghost use Rattle.trial.specs.Trial.{blank_sectors, left_on, KeepsNewer, OneOfThree, format as the_format, older as the_older, newer as the_newer};
+ghost use Rattle.trial.specs.Trial.{blank_sectors, left_on, KeepsNewer, OneOfThree};
+ghost use Rattle.trial.specs.Trial.{format as the_format, older as the_older, newer as the_newer};
 
 use disk::{Disk, DiskFault, HoldBack, MemoryDisk};
 use record::{Content, Format, Rank, Record, SECTOR_BYTES, Sequence, classify, encode};
@@ -59,7 +60,7 @@ fn rewrite_and_cut<H: HoldBack>(
     flushed: bool,
     tear: u64,
 ) -> Result<Content, DiskFault>
-    requires { (sectors disk.old.sectors.memory.now ≡ blank_sectors) × (disk.old.supply ≡ 100) }
+    requires { (sectors disk.old.sectors.memory.now ≡ blank_sectors) × (disk.old.supply ≡ SUPPLY) }
     ensures { result ≡ Ok (left_on H.holding flushed tear) }
 {
     disk.write(SECTOR, &encode(TAG, older()))?;

@@ -3,7 +3,7 @@ ghost use Rattle.std.specs.Prelude.{◌≡◌, T, map, IfOk, Some};
 ghost use Rattle.record.specs.declared.sector.Content.TheVariants.{Record as Holds};
 ghost use Rattle.std.specs.List.{range_with_len, AllByRecursion};
 ghost use Rattle.trial.specs.Trial.{newer, OneOfThree};
-ghost use Rattle.trial.specs.Table.{trial_of, leaves, how_many, stands, line_of};
+ghost use Rattle.trial.specs.Table.{trial_of, leaves, how_many, newer_stands, line_of};
 
 use crate::cut::{left_by, newer, older};
 use disk::{LatestWrite, WriteThrough};
@@ -56,7 +56,7 @@ impl Outcome {
 pub fn cut_at(device: Device, flushed: bool, tear: u64) -> Trial
     ensures value { result ≡ trial_of device flushed tear }
     ensures one_of_three { OneOfThree result.left }
-    ensures settled { T (stands device flushed) → result.left ≡ Holds newer }
+    ensures settled { T (newer_stands device flushed) → result.left ≡ Holds newer }
 {
     let left = match device {
         Device::Torn => left_by::<LatestWrite>(flushed, tear),
@@ -72,7 +72,8 @@ pub fn cut_at(device: Device, flushed: bool, tear: u64) -> Trial
 
 // The trials of all tears, from 0 to 32.
 pub fn trials(heap: Global, device: Device, flushed: bool) -> Result<Vec<Trial>, AllocError>
-    ensures table { IfOk result (λ v. v.items ≡ map (trial_of device flushed) (range_with_len 0 33)) }
+    ensures table { IfOk result
+        (λ v. v.items ≡ map (trial_of device flushed) (range_with_len 0 33)) }
     ensures one_of_three { IfOk result (λ v. AllByRecursion (λ t. OneOfThree t.left) v.items) }
 {
     (0..TEARS)

@@ -3,7 +3,7 @@ use Rattle.std.proofs.Common.{◌≡◌, sym, ap, ◌∙◌, subst}
 use Rattle.disk.specs.Memory.{sectors}
 use Rattle.disk.proofs.Zeros.{sectors_zero}
 use Rattle.trial.specs.Trial.{left_on, OneOfThree}
-use Rattle.trial.proofs.Left.{one_of_three, settled, stands}
+use Rattle.trial.proofs.Left.{one_of_three, settled, newer_stays}
 use Rattle.trial.proofs.cut.left_by.Goals as goal
 
 pub rewrite_and_cut-requires : goal.rewrite_and_cut-requires
@@ -17,5 +17,5 @@ returns g c =
       value = value;
       one_of_three = subst OneOfThree (sym value) (one_of_three g.H.HoldBack.holding laws c.args.flushed c.args.tear);
       settled = λ t. value ∙ settled g.H.HoldBack.holding laws c.args.flushed c.args.tear t;
-      stands = λ kept. value ∙ stands g.H.HoldBack.holding laws c.args.flushed c.args.tear kept;
+      stands = λ kept. value ∙ newer_stays g.H.HoldBack.holding laws c.args.flushed c.args.tear kept;
     }

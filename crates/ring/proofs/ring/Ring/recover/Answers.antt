@@ -1,7 +1,7 @@
 -- The gap is looked at last.
 use Rattle.std.proofs.Common.{ℕ, sym, refl, ap, ◌∙◌, arith}
 use Rattle.std.proofs.lemmas.Map.Keys.{le_from_is_le}
-use Rattle.ring.specs.Ring.{recovered}
+use Rattle.ring.specs.Ring.{recover}
 use Rattle.ring.proofs.Recovers.{recover_live, recover_well, recover_agrees}
 use Rattle.ring.proofs.ring.Ring.recover.Goals as goal
 
@@ -15,7 +15,7 @@ returns-then-holds_live g c =
           recover_live _ _ all least most c.in_ok-known.known c.in_ok-known.ensures c.gap-gap.result
           c.in_ok-bytes.bytes c.classify.result c.gap-gap.ensures c.in_ok-bytes.ensures c.classify.ensures
           (sym c.if-holds_live.ensures)
-          ∙ ap (λ (n : ℕ). recovered (record { tag = c.args.tag; top = c.args.top; sectors = n }) (g.D.Disk.meaning c.args.disk.now).reading) all;
+          ∙ ap (λ (n : ℕ). recover (record { tag = c.args.tag; top = c.args.top; sectors = n }) (g.D.Disk.meaning c.args.disk.now).reading) all;
       agrees = λ _. tt;
     }
 
@@ -29,7 +29,7 @@ returns g c =
           recover_well _ _ all least most c.in_ok-known.known c.in_ok-known.ensures c.gap-gap.result
           c.in_ok-bytes.bytes c.classify.result c.gap-gap.ensures c.in_ok-bytes.ensures c.classify.ensures
           (sym c.if-holds_live.ensures)
-          ∙ ap (λ (n : ℕ). recovered (record { tag = c.args.tag; top = c.args.top; sectors = n }) (g.D.Disk.meaning c.args.disk.now).reading) all;
+          ∙ ap (λ (n : ℕ). recover (record { tag = c.args.tag; top = c.args.top; sectors = n }) (g.D.Disk.meaning c.args.disk.now).reading) all;
       agrees = λ tops.
           recover_agrees _ _ all least most c.in_ok-known.known c.in_ok-known.ensures c.gap-gap.result
           c.in_ok-bytes.bytes c.classify.result c.gap-gap.ensures c.in_ok-bytes.ensures c.classify.ensures

@@ -18,9 +18,9 @@ returns-clause-reserves g c agrees none =
 
 pub returns-clause-ends : goal.returns-clause-ends
 returns-clause-ends g c agrees =
-    let admitted = is_admitted _ _ _ c.in_ok-claim.ensures in
-    let may = may_from _ _ c.args.series c.args.end agrees admitted.0 in
-    let begun = rw admitted.1 at c.in_ok-written.ensures.begins in
+    let admit = is_admitted _ _ _ c.in_ok-claim.ensures in
+    let may = may_from _ _ c.args.series c.args.end agrees admit.0 in
+    let begun = rw admit.1 at c.in_ok-written.ensures.begins in
     let was = passed_on _ _ _ c.in_ok-reserved.ensures.cases in
     own_end_alone _ _ _ _ may _ _ _
     (confirm_done _ _ _ _ may _ _ _ (begun may) _ _ (sym was ∙ c.confirm.ensures.answer)
@@ -45,33 +45,33 @@ returns-in_err-claim-clause-runs g c =
 
 pub returns-in_err-written-clause-runs : goal.returns-in_err-written-clause-runs
 returns-in_err-written-clause-runs g c =
-    let admitted = is_admitted _ _ _ c.in_ok-claim.ensures in
+    let admit = is_admitted _ _ _ c.in_ok-claim.ensures in
     let p = err_from_is_err_and c.from_residual-in_err-written.result c.from_residual-in_err-written.ensures.1 in
     rw (p.1, p.2)
-    (runs_unrefused g.D.Disk.moves g.D.Disk.meaning _ _ _ _ admitted.0 _ _ _
-    ((rw admitted.1 at c.in_err-written.ensures.runs) _ refl refl))
+    (runs_unrefused g.D.Disk.moves g.D.Disk.meaning _ _ _ _ admit.0 _ _ _
+    ((rw admit.1 at c.in_err-written.ensures.runs) _ refl refl))
 
 pub returns-clause-runs : goal.returns-clause-runs
 returns-clause-runs g c =
-    let admitted = is_admitted _ _ _ c.in_ok-claim.ensures in
+    let admit = is_admitted _ _ _ c.in_ok-claim.ensures in
     let was = passed_on _ _ _ c.in_ok-reserved.ensures.cases in
-    runs_unrefused g.D.Disk.moves g.D.Disk.meaning _ _ _ _ admitted.0 _ _ _
+    runs_unrefused g.D.Disk.moves g.D.Disk.meaning _ _ _ _ admit.0 _ _ _
     (flush_goes g.D.Disk.moves g.D.Disk.meaning (record { series = c.args.series; end = c.args.end }) _ _
-    (c.in_ok-written.ensures.claims ∙ admitted.1) (c.in_ok-written.ensures.starts ∙ ap (known_end c.args.self.now.known) (ap (λ claim. claim.series) admitted.1)) _ _ _ _ _
-    (rw admitted.1 at c.in_ok-written.ensures.runs) _
+    (c.in_ok-written.ensures.claims ∙ admit.1) (c.in_ok-written.ensures.starts ∙ ap (known_end c.args.self.now.known) (ap (λ claim. claim.series) admit.1)) _ _ _ _ _
+    (rw admit.1 at c.in_ok-written.ensures.runs) _
     c.confirm.ensures.moves _ (sym was ∙ c.confirm.ensures.answer)
     (MatchResult-at_ok _ _ _ was c.confirm.ensures.effect))
 
 pub returns-in_err-reserved-clause-runs : goal.returns-in_err-reserved-clause-runs
 returns-in_err-reserved-clause-runs g c =
-    let admitted = is_admitted _ _ _ c.in_ok-claim.ensures in
+    let admit = is_admitted _ _ _ c.in_ok-claim.ensures in
     let was = made_of _ _ _ c.in_err-reserved.ensures.cases in
     let p = err_from_is_err_and c.from_residual-in_err-reserved.result c.from_residual-in_err-reserved.ensures.1 in
     rw (p.1, p.2)
-    (runs_unrefused g.D.Disk.moves g.D.Disk.meaning _ _ _ _ admitted.0 _ _ _
+    (runs_unrefused g.D.Disk.moves g.D.Disk.meaning _ _ _ _ admit.0 _ _ _
     (flush_stops g.D.Disk.moves g.D.Disk.meaning (record { series = c.args.series; end = c.args.end }) _ _
-    (c.in_ok-written.ensures.claims ∙ admitted.1) (c.in_ok-written.ensures.starts ∙ ap (known_end c.args.self.now.known) (ap (λ claim. claim.series) admitted.1)) _ _ _ _ _
-    (rw admitted.1 at c.in_ok-written.ensures.runs) _
+    (c.in_ok-written.ensures.claims ∙ admit.1) (c.in_ok-written.ensures.starts ∙ ap (known_end c.args.self.now.known) (ap (λ claim. claim.series) admit.1)) _ _ _ _ _
+    (rw admit.1 at c.in_ok-written.ensures.runs) _
     c.confirm.ensures.moves was.0 _ (sym was.1 ∙ c.confirm.ensures.answer)
     (MatchResult-at_err _ _ _ was.1 c.confirm.ensures.effect)
     (search (rules, was.2))))

@@ -1,7 +1,7 @@
 -- Each line of a piece is taken, and the last one held where it has not ended.
 use Rattle.std.proofs.Common.{rules, ◌≡◌, ◌∙◌, ◌++◌, ℕ, List, [], ◌∷◌, None, Some, take, refl, sym, ap, subst, append_assoc}
 use Rattle.std.specs.declared.ops.ControlFlow.TheVariants.{Continue, Break}
-use Rattle.simulator.specs.Feeds.{Answers, held_row}
+use Rattle.simulator.specs.Feeds.{AnswersHeld, held_row}
 use Rattle.simulator.specs.Files.{Flow, rows_of}
 use Rattle.simulator.specs.Lines.{line_end, first_bytes, lines_of}
 use Rattle.simulator.specs.Takes.{Row, run_of}
@@ -28,7 +28,7 @@ returns-then-is_break c line holds =
     let same = c.fill.ensures.holds ∙ ap (λ (xs : List ℕ). take 22 (xs ++ first_bytes rest)) at.holds in
     let stops : c.in_ok-answer.field-0 ≡ Break tt = search rules in
     let a =
-    subst (λ (flow : Flow). Answers f c.loop-count.print.items flow c.answer.new.self c.answer.new.print.items) stops c.in_ok-answer.ensures in
+    subst (λ (flow : Flow). AnswersHeld f c.loop-count.print.items flow c.answer.new.self c.answer.new.print.items) stops c.in_ok-answer.ensures in
     record {
       rows = _;
       takes = takes_more at.takes a.takes;
@@ -49,7 +49,7 @@ loop-count-preserved c line holds =
     let row = held_row f in
     let goes : c.in_ok-answer.field-0 ≡ Continue tt = search rules in
     let a =
-    subst (λ (flow : Flow). Answers f c.loop-count.print.items flow c.answer.new.self c.answer.new.print.items) goes c.in_ok-answer.ensures in
+    subst (λ (flow : Flow). AnswersHeld f c.loop-count.print.items flow c.answer.new.self c.answer.new.print.items) goes c.in_ok-answer.ensures in
     record {
       rows = _;
       takes = takes_more at.takes a.takes;

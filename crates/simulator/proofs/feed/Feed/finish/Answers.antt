@@ -1,6 +1,6 @@
 -- The last line is taken, if there is one.
 use Rattle.std.proofs.Common.{rules, ◌≡◌, ◌∙◌, List, length, ap, sym, subst}
-use Rattle.simulator.specs.Feeds.{Takes}
+use Rattle.simulator.specs.Feeds.{TakesRows}
 use Rattle.simulator.specs.Takes.{Row, run_of}
 use Rattle.simulator.proofs.Feeds.{last_row, no_row, takes_none}
 use Rattle.simulator.proofs.feed.Feed.finish.Goals as goal
@@ -10,7 +10,7 @@ returns-in_ok-answer c line pending =
     let s = c.args.self.now.simulator in
     let some : length c.line.result.now ≡ 0 → ⊥ = search rules in
     let held_is = ap length c.line.ensures.bytes in
-    subst (λ (rows : List Row). Takes s c.args.print.now.items rows c.answer.new.self.simulator c.answer.new.print.items)
+    subst (λ (rows : List Row). TakesRows s c.args.print.now.items rows c.answer.new.self.simulator c.answer.new.print.items)
     (last_row (run_of s) c.args.self.now.partial line pending (λ none. some (held_is ∙ none)))
     c.in_ok-answer.ensures.takes
 
@@ -18,6 +18,6 @@ pub returns-else-not-is_empty : goal.returns-else-not-is_empty
 returns-else-not-is_empty c line pending =
     let s = c.args.self.now.simulator in
     let none : length c.line.result.now ≡ 0 = search rules in
-    subst (λ (rows : List Row). Takes s c.args.print.now.items rows s c.args.print.now.items)
+    subst (λ (rows : List Row). TakesRows s c.args.print.now.items rows s c.args.print.now.items)
     (no_row (run_of s) c.args.self.now.partial line pending (sym (ap length c.line.ensures.bytes) ∙ none))
     (takes_none s c.args.print.now.items)
