@@ -10,8 +10,8 @@ use Rattle.std.specs.declared.ops.ControlFlow.TheVariants.{Continue, Break}
 use Rattle.history.specs.declared.calls.Call.{Call}
 use Rattle.history.specs.declared.calls.Turn.{Turn}
 use Rattle.simulator.specs.Calls.{call_by, turn_in, added, Extends}
-use Rattle.simulator.specs.Feeds.{HoldsStart, IsBegun, TakesRows, held_row, AnswersHeld, ReadsOn, StopsRun, Ends}
-use Rattle.simulator.specs.Files.{Flow, flow_after, unless_broken, rows_after, rows_of, last_run, first_run, print_of_file, FileServed}
+use Rattle.simulator.specs.Feeds.{HoldsStart, IsBegun, TakesRows, held_row, AnswersHeld, ReadsOn, StopsRun, Ends, HasTaken, HasPrinted, HasRead, Gains, PrintsPiece, PrintsToStop, PrintsToEnd}
+use Rattle.simulator.specs.Files.{Flow, flow_after, unless_broken, rows_after, rows_of, last_run, first_run}
 use Rattle.simulator.specs.Histories.{RunServed}
 use Rattle.simulator.specs.Lines.{line_end, up_to, first_bytes, ended_if, lines_from, lines_of, held}
 use Rattle.simulator.specs.Request.{command_in, fields_in}
@@ -230,36 +230,115 @@ takes_more {s} {t} {u} {print} {print'} {print''} {rows} {more} first second =
           (second.serves (turns ++ filter_map turn_of rows) (first.serves turns served));
     }
 
--- a whole file that is read as one piece
-module _ (memory file print : List ℕ) (f : Feed) (begun : IsBegun memory f) where
-  abbrev pub Printed : List ℕ → Type 0
-  Printed print' = (print' ≡ print ++ print_of_file memory file) × FileServed memory file
+-- a run over a memory takes lines, and then more
+module _ {memory print print' printed : List ℕ} {rows more : List Row} {s s' : Simulator} (so_far : HasTaken memory rows printed s) (takes : TakesRows s print more s' print') where
+  pub taken_on : HasTaken memory (rows ++ more) (printed ++ flat_map print_of more) s'
+  taken_on =
+      record {
+        run =
+            takes.run
+            ∙ ap (λ (r : Run). last_run r more) so_far.run
+            ∙ sym (after-append (first_run memory) rows more);
+        prints =
+            ap (λ (xs : List ℕ). xs ++ flat_map print_of more) so_far.prints
+            ∙ sym (flat_map-append print_of rows more);
+        served =
+            subst (λ (xs : List Turn). RunServed s'.stage xs) (sym (filter_map-append turn_of rows more))
+            (takes.serves (filter_map turn_of rows) so_far.served);
+      }
 
-  printed :
-      (rows : List Row) (s : Simulator) (print' : List ℕ) → rows_of (lines_of (file ++ [])) (run_of f.simulator) ≡ rows →
-      TakesRows f.simulator print rows s print' → Printed print'
-  printed rows s print' all takes =
-      let same : rows ≡ rows_of (lines_of file) (first_run memory) =
-      sym all
-      ∙ ap (λ (xs : List ℕ). rows_of (lines_of xs) (run_of f.simulator)) (append-nil file)
-      ∙ ap (rows_of (lines_of file)) begun.run in (
-        takes.prints ∙ ap (λ (x : List Row). print ++ flat_map print_of x) same,
-        record {
-          stage = s.stage;
-          comes_to = ap (λ (r : Run). r.view) (takes.run ∙ ap (λ (r : Run). last_run r rows) begun.run ∙ ap (last_run (first_run memory)) same);
-          served =
-              subst (λ (x : List Row). RunServed s.stage (filter_map turn_of x)) same (takes.serves [] begun.served);
-        },
+  pub gains : {Fact : List ℕ → Type 0} → Fact (flat_map print_of more) → Gains print print' Fact
+  gains fact = (flat_map print_of more, takes.prints, fact)
+
+-- what was read of a file
+pub has_read :
+    (memory bytes print line : List ℕ) (rows : List Row) (f : Feed) → HasTaken memory rows print f.simulator →
+    HoldsStart f.partial line →
+    ((more : List ℕ) →
+    rows_of (lines_of (bytes ++ more)) (first_run memory) ≡ rows ++ rows_of (lines_from more line) (run_of f.simulator)) →
+    HasRead memory bytes print f
+has_read memory bytes print line rows f takes holds splits =
+    record {
+      rows = rows;
+      takes = takes;
+      unended = line;
+      holds = holds;
+      splits = splits;
+      tells =
+          λ more.
+          ap (flat_map print_of) (splits more)
+          ∙ flat_map-append print_of rows (rows_of (lines_from more line) (run_of f.simulator))
+          ∙ ap (λ (xs : List ℕ). xs ++ flat_map print_of (rows_of (lines_from more line) (run_of f.simulator))) (sym takes.prints);
+    }
+
+pub reads_nothing : {memory : List ℕ} {f : Feed} → IsBegun memory f → HasRead memory [] [] f
+reads_nothing {memory} {f} begun =
+    has_read memory [] [] [] [] f
+    (record { run = begun.run; prints = refl; served = begun.served })
+    begun.holds
+    (λ more. ap (rows_of (lines_of more)) (sym begun.run))
+
+-- the lines that are read on, by those of the piece
+module _ {memory bytes printed : List ℕ} (piece : List ℕ) {f : Feed} (read : HasRead memory bytes printed f) where
+  rows_on :
+      (rest : List ℕ) →
+      rows_of (lines_of ((bytes ++ piece) ++ rest)) (first_run memory)
+      ≡ read.rows ++ rows_of (lines_from (piece ++ rest) read.unended) (run_of f.simulator)
+  rows_on rest =
+      ap (λ (xs : List ℕ). rows_of (lines_of xs) (first_run memory)) (append_assoc bytes piece rest)
+      ∙ read.splits (piece ++ rest)
+
+  pub reads_on :
+      (print print' : List ℕ) (f' : Feed) → ReadsOn f piece print f' [] print' →
+      Gains print print' (λ more. HasRead memory (bytes ++ piece) (printed ++ more) f')
+  reads_on print print' f' goes_on =
+      let on = goes_on read.unended read.holds in
+      gains read.takes on.takes
+      (has_read memory (bytes ++ piece) _ on.unended (read.rows ++ on.rows) f' (taken_on read.takes on.takes) on.holds
+      (λ rest.
+      rows_on rest
+      ∙ ap (λ (xs : List Row). read.rows ++ xs) (on.splits rest)
+      ∙ sym (append_assoc read.rows on.rows _)))
+
+  pub stops_in :
+      (print print' : List ℕ) (f' : Feed) → StopsRun f piece print f' print' →
+      Gains print print' (λ more. (rest : List ℕ) → HasPrinted memory ((bytes ++ piece) ++ rest) (printed ++ more) f'.simulator)
+  stops_in print print' f' stops =
+      let on = stops read.unended read.holds in
+      gains read.takes on.takes
+      (λ rest.
+      subst (λ (rows : List Row). HasTaken memory rows (printed ++ flat_map print_of on.rows) f'.simulator)
+      (sym (rows_on rest ∙ ap (λ (xs : List Row). read.rows ++ xs) (on.all rest)))
+      (taken_on read.takes on.takes))
+
+pub ends_there :
+    {memory bytes printed : List ℕ} (print print' : List ℕ) {f : Feed} (f' : Feed) → HasRead memory bytes printed f → Ends f print f' print' →
+    Gains print print' (λ more. HasPrinted memory bytes (printed ++ more) f'.simulator)
+ends_there {memory} {bytes} {printed} print print' {f} f' read ends =
+    let takes = ends read.unended read.holds in
+    gains read.takes takes
+    (subst (λ (rows : List Row). HasTaken memory rows (printed ++ flat_map print_of (rows_of (lines_from [] read.unended) (run_of f.simulator))) f'.simulator)
+    (sym (read.splits []) ∙ ap (λ (xs : List ℕ). rows_of (lines_of xs) (first_run memory)) (append-nil bytes))
+    (taken_on read.takes takes))
+
+-- a piece with which the file ends
+module _ {memory bytes printed : List ℕ} (piece print print' : List ℕ) {f : Feed} (f' : Feed) (read : HasRead memory bytes printed f) where
+  abbrev pub Printed : Type 0
+  Printed = Gains print print' (λ more. HasPrinted memory (bytes ++ piece) (printed ++ more) f'.simulator)
+
+  pub prints_stopped : PrintsToStop f piece print f' print' → Printed
+  prints_stopped stops =
+      let all = stops memory bytes printed read in (
+        all.0,
+        all.1,
+        subst (λ (file : List ℕ). HasPrinted memory file (printed ++ all.0) f'.simulator) (append-nil (bytes ++ piece)) (all.2 []),
       )
 
-  pub file_ends :
-      (f'' : Feed) {f' : Feed} {print' print'' : List ℕ} → ReadsOn f file print f' [] print' → Ends f' print' f'' print'' →
-      Printed print''
-  file_ends f'' {f'} {print'} {print''} goes_on ends =
-      let read = goes_on [] begun.holds in
-      printed _ f''.simulator print'' (read.splits []) (takes_more read.takes (ends read.unended read.holds))
-
-  pub file_stops : {f' : Feed} {print' : List ℕ} → StopsRun f file print f' print' → Printed print'
-  file_stops {f'} {print'} stops =
-      let read = stops [] begun.holds in
-      printed read.rows f'.simulator print' (read.all []) read.takes
+  pub prints_ended : (between : Feed) (so_far : List ℕ) → PrintsPiece f piece print between so_far → PrintsToEnd between so_far f' print' → Printed
+  prints_ended between so_far goes ends =
+      let on = goes memory bytes printed read in
+      let last = ends memory (bytes ++ piece) (printed ++ on.0) on.2 in (
+        on.0 ++ last.0,
+        last.1 ∙ ap (λ (xs : List ℕ). xs ++ last.0) on.1 ∙ append_assoc print on.0 last.0,
+        subst (λ (xs : List ℕ). HasPrinted memory (bytes ++ piece) xs f'.simulator) (append_assoc printed on.0 last.0) last.2,
+      )

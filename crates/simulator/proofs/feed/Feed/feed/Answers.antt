@@ -6,7 +6,7 @@ use Rattle.simulator.specs.Files.{Flow, rows_of}
 use Rattle.simulator.specs.Lines.{line_end, first_bytes, lines_of}
 use Rattle.simulator.specs.Takes.{Row, run_of}
 use Rattle.simulator.specs.declared.feed.Feed.{Feed}
-use Rattle.simulator.proofs.Feeds.{line_goes_on, run_stops, run_goes_on, still_holds, takes_none, takes_more}
+use Rattle.simulator.proofs.Feeds.{line_goes_on, reads_on, stops_in, run_stops, run_goes_on, still_holds, takes_none, takes_more}
 use Rattle.simulator.proofs.feed.Feed.feed.Goals as goal
 
 pub loop-count-init : goal.loop-count-init
@@ -19,8 +19,8 @@ loop-count-init c line holds =
       splits = λ more. refl;
     }
 
-pub returns-then-is_break : goal.returns-then-is_break
-returns-then-is_break c line holds =
+pub returns-then-is_break-clause-takes : goal.returns-then-is_break-clause-takes
+returns-then-is_break-clause-takes c line holds =
     let at = c.loop-count.invariant line holds in
     let rest = c.loop-count.rest.now in
     let f : Feed = record { simulator = c.loop-count.self.simulator; partial = c.fill.new.self } in
@@ -64,8 +64,8 @@ loop-count-preserved c line holds =
           ∙ sym (append_assoc at.rows (row ∷ []) _);
     }
 
-pub returns : goal.returns
-returns c line holds =
+pub returns-clause-takes : goal.returns-clause-takes
+returns-clause-takes c line holds =
     let at = c.loop-count.invariant line holds in
     let rest = c.loop-count.rest.now in
     let none : line_end rest ≡ None = sym c.fill.ensures.end ∙ c.in_default.is in
@@ -80,3 +80,9 @@ returns c line holds =
           at.splits more
           ∙ ap (λ (lines : List (List ℕ)). at.rows ++ rows_of lines (run_of c.loop-count.self.simulator)) (line_goes_on rest more at.unended none);
     }
+
+pub returns-then-is_break-clause-reads : goal.returns-then-is_break-clause-reads
+returns-then-is_break-clause-reads c memory bytes printed read = stops_in _ read _ _ _ (returns-then-is_break-clause-takes c)
+
+pub returns-clause-reads : goal.returns-clause-reads
+returns-clause-reads c memory bytes printed read = reads_on _ read _ _ _ (returns-clause-takes c)
