@@ -6,6 +6,7 @@ use Rattle.std.proofs.Math.Nat.{min-le_right}
 use Rattle.record.specs.Crc.{crc}
 use Rattle.record.specs.Sector.{encoded}
 use Rattle.record.specs.declared.numbers.Identifier.{Identifier}
+use Rattle.record.specs.declared.numbers.Reading.{Reading}
 use Rattle.record.specs.declared.numbers.Sequence.{Sequence}
 use Rattle.disk.specs.Meaning.{Meaning}
 use Rattle.kind.specs.Time.{seconds_of, time_floor, time_identifier}
@@ -46,20 +47,24 @@ abbrev pub refusal_of : Wish → ℕ
 refusal_of (declines fault) = (particulars fault).number
 refusal_of (draws s first n claimed) = 0
 
--- a call of a server, and what it answered: a request of a series at a reading, or a cut with its
--- tear and its new supply
-abbrev pub asked : ℕ → ℕ → Result Identifier ServerFault → Turn
-asked s reading answer =
+-- what a request of series 0 at a reading wants of a server of the time kind
+abbrev pub wish_at : TimeKind → Up → Reading → Wish
+wish_at kind server reading =
+    decide (numbering_of (Time kind)) (end_at server) (next_at server) (one 0 reading)
+
+-- a request of a series at a reading, and what the server answered
+abbrev pub request_turn : ℕ → ℕ → Result Identifier ServerFault → Turn
+request_turn s reading answer =
     record { call = Give s (record { 0 = reading }); answer = Some (OfGive answer) }
 
-abbrev pub cut_off : ℕ → ℕ → Result Sequence ServerFault → Turn
-cut_off tear supply answer = record { call = Cut tear supply; answer = Some (OfCut answer) }
+-- a cut with its tear and its new supply, and what the server answered
+abbrev pub cut_turn : ℕ → ℕ → Result Sequence ServerFault → Turn
+cut_turn tear supply answer = record { call = Cut tear supply; answer = Some (OfCut answer) }
 
--- what a case says: a memory, the lines of a request file and the lines of its print; the same of a
--- run that has begun; a memory, the lines of a request file, and the calls that are made for them;
--- bytes and their checksum; a byte and its correction; a correction byte, a raw reading and its
--- floor; the same, and the number that a request is denied with; box, millisecond, series, step and
--- their identifier
+-- what a case says: a memory, the lines of a request file and the lines of its print; the same of a run that has begun; a
+-- memory, the lines of a request file, and the calls that are made for them; bytes and their checksum; a byte and its
+-- correction; a correction byte, a raw reading and its floor; the same, and the number that a request is denied with; box,
+-- millisecond, series, step and their identifier
 pub data Case : Type 0 where
   prints : List ℕ → List (List ℕ) → List (List ℕ) → Case
   goes_on : Run → List (List ℕ) → List (List ℕ) → Case
@@ -71,17 +76,20 @@ pub data Case : Type 0 where
   identifies : ℕ → ℕ → ℕ → ℕ → ℕ → Case
 
 -- a case holds by the rules
-abbrev pub Holds : Case → Type 0
-Holds (prints memory requests lines) = print_of_file memory (text requests) ≡ text lines
-Holds (goes_on run requests lines) = print_of_lines (lines_of (text requests)) run ≡ text lines
-Holds (calls memory requests turns) = turns_of_file memory (text requests) ≡ turns
-Holds (sums bytes sum) = crc bytes ≡ sum
-Holds (corrects byte seconds) = seconds_of (record { 0 = byte }) ≡ seconds
-Holds (has_floor byte raw floor) = time_floor (box_with 0 byte) (record { 0 = raw }) ≡ Some (record { 0 = floor })
-Holds (denies byte raw number) =
-    (server : Up) → refusal_of (decide (numbering_of (Time (box_with 0 byte))) (end_at server) (next_at server) (one 0 (record { 0 = raw }))) ≡ number
-Holds (identifies box ms series step identifier) =
-    time_identifier (box_with box 0) series (record { 0 = ms * 4096 + step }) ≡ record { 0 = identifier }
+abbrev pub CaseHolds : Case → Type 0
+CaseHolds (prints memory requests lines) = print_of_file memory (text requests) ≡ text lines
+CaseHolds (goes_on run requests lines) =
+    print_of_lines (lines_of (text requests)) run ≡ text lines
+CaseHolds (calls memory requests turns) = turns_of_file memory (text requests) ≡ turns
+CaseHolds (sums bytes sum) = crc bytes ≡ sum
+CaseHolds (corrects byte seconds) = seconds_of (record { 0 = byte }) ≡ seconds
+CaseHolds (has_floor byte raw floor) =
+    time_floor (box_with 0 byte) (record { 0 = raw }) ≡ Some (record { 0 = floor })
+CaseHolds (denies byte raw number) =
+    (server : Up) → refusal_of (wish_at (box_with 0 byte) server (record { 0 = raw })) ≡ number
+CaseHolds (identifies box ms series step identifier) =
+    time_identifier (box_with box 0) series (record { 0 = ms * 4096 + step })
+    ≡ record { 0 = identifier }
 
 -- a memory of more than ten sectors, not cleared
 abbrev pub memory : List ℕ
@@ -91,7 +99,8 @@ memory = replicate 400 7
 abbrev pub one_record : List (List ℕ)
 one_record =
     slice_set (replicate 10 (replicate 32 0)) 1
-    (encoded 1 (record { series = 2; sequence = record { 0 = 1 }; end = record { 0 = 999999998 } }))
+    (encoded 1
+    (record { series = 2; sequence = record { 0 = 1 }; end = record { 0 = 999999998 } }))
 
 -- a disk that keeps them
 abbrev pub almost_full : Meaning
@@ -104,17 +113,48 @@ serial = Serial (record { size = 3; in_range = (lit≤ tt, lit≤ tt) })
 -- a server that wakes on the almost full disk
 abbrev pub near_the_top : Run
 near_the_top =
-    record { view = runs Faithful serial (woken (numbering_of serial) almost_full) almost_full []; taken = 2 }
+    record {
+      view = runs Faithful serial (woken (numbering_of serial) almost_full) almost_full [];
+      taken = 2;
+    }
 
 -- the cases
 abbrev pub table : List Case
 table =
     prints memory
-    (codes "D    0            10" ∷ codes "S    3             0" ∷ codes "G    2             0" ∷ codes "C    0             1" ∷ codes "G    2             0" ∷ codes "C    0             9" ∷ codes "G    2             0" ∷ [])
-    (codes "     1   0  0                   0" ∷ codes "     2   0  0                   0" ∷ codes "     3   2  0                   1" ∷ codes "     4   0  0                   1" ∷ codes "     5   2 12                   2" ∷ codes "     6   0  0                   2" ∷ codes "     7   2  0                   7" ∷ [])
+    (codes "D    0            10"
+    ∷ codes "S    3             0"
+    ∷ codes "G    2             0"
+    ∷ codes "C    0             1"
+    ∷ codes "G    2             0"
+    ∷ codes "C    0             9"
+    ∷ codes "G    2             0"
+    ∷ [])
+    (codes "     1   0  0                   0"
+    ∷ codes "     2   0  0                   0"
+    ∷ codes "     3   2  0                   1"
+    ∷ codes "     4   0  0                   1"
+    ∷ codes "     5   2 12                   2"
+    ∷ codes "     6   0  0                   2"
+    ∷ codes "     7   2  0                   7"
+    ∷ [])
     ∷ prints memory
-    (codes "D    1            10" ∷ codes "S    3             0" ∷ codes "G    2             0" ∷ codes "C    0             1" ∷ codes "G    2             0" ∷ codes "C    0             9" ∷ codes "G    2             0" ∷ [])
-    (codes "     1   0  0                   0" ∷ codes "     2   0  0                   0" ∷ codes "     3   2  0                   1" ∷ codes "     4   0  0                   1" ∷ codes "     5   2 12                   2" ∷ codes "     6   0  0                   1" ∷ codes "     7   2  0                   4" ∷ [])
+    (codes "D    1            10"
+    ∷ codes "S    3             0"
+    ∷ codes "G    2             0"
+    ∷ codes "C    0             1"
+    ∷ codes "G    2             0"
+    ∷ codes "C    0             9"
+    ∷ codes "G    2             0"
+    ∷ [])
+    (codes "     1   0  0                   0"
+    ∷ codes "     2   0  0                   0"
+    ∷ codes "     3   2  0                   1"
+    ∷ codes "     4   0  0                   1"
+    ∷ codes "     5   2 12                   2"
+    ∷ codes "     6   0  0                   1"
+    ∷ codes "     7   2  0                   4"
+    ∷ [])
     ∷ prints memory [] []
     ∷ calls memory
     (codes "D    1            10"
@@ -126,10 +166,10 @@ table =
     ∷ codes "G    8            +0"
     ∷ codes "G    2             0"
     ∷ [])
-    (asked 2 0 (Ok (record { 0 = 1 }))
-    ∷ asked 255 7 (Err (Series 255))
-    ∷ cut_off 5 9 (Ok (record { 0 = 1 }))
-    ∷ asked 2 0 (Ok (record { 0 = 4 }))
+    (request_turn 2 0 (Ok (record { 0 = 1 }))
+    ∷ request_turn 255 7 (Err (Series 255))
+    ∷ cut_turn 5 9 (Ok (record { 0 = 1 }))
+    ∷ request_turn 2 0 (Ok (record { 0 = 4 }))
     ∷ [])
     ∷ sums (codes "123456789") 0xCBF43926
     ∷ sums [] 0
@@ -148,4 +188,4 @@ table =
 
 -- every case of the table holds
 abbrev pub EveryCaseHolds : Type 0
-EveryCaseHolds = AllByRecursion Holds table
+EveryCaseHolds = AllByRecursion CaseHolds table

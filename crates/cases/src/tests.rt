@@ -35,7 +35,7 @@ fn a_whole_file(rt: HostRuntime) {
     let mut memory = [7; 400];
     let mut print = Vec::new(rt.alloc());
     let file = b"D    1            10\nS    3             0\nG    2             0\nG";
-    assert_eq!(rt; print_file(&mut memory, file, &mut print), Ok(()));
+    assert_eq!(rt; print_file(&mut memory, file, &mut print).printed, Ok(()));
     let lines = [
         "     1   0  0                   0\n",
         "     2   0  0                   0\n",

@@ -4,7 +4,7 @@ use Rattle.std.specs.List.{flat_map}
 use Rattle.std.proofs.lemmas.List.{take-append-drop}
 use Rattle.disk.specs.Memory.{chunks, sectors, spare}
 use Rattle.simulator.specs.Devices.{meaning_of}
-use Rattle.simulator.specs.Stages.{view, memory_of, bytes_of, left_memory}
+use Rattle.simulator.specs.Stages.{view, memory_of, memory_bytes, left_memory}
 use Rattle.simulator.specs.Takes.{device_bytes, left_bytes, stage_bytes}
 use Rattle.simulator.specs.declared.device.Device.{Device}
 use Rattle.simulator.specs.declared.device.Device.TheVariants.{Faithful, Torn}
@@ -27,7 +27,7 @@ whole xs rest =
     let front : flat_map (λ sector. sector) (chunks n xs) ≡ take (32 * n) xs = joined_chunks n xs in
     sym (ap (λ (ys : List ℕ). ys ++ (drop (32 * n) xs ++ rest)) front ∙ sym (append_assoc (take (32 * n) xs) (drop (32 * n) xs) rest) ∙ ap (λ (ys : List ℕ). ys ++ rest) (take-append-drop (32 * n) xs))
 
-of_device : (d : Device) (rest : List ℕ) → device_bytes d ++ rest ≡ bytes_of (meaning_of d) rest
+of_device : (d : Device) (rest : List ℕ) → device_bytes d ++ rest ≡ memory_bytes (meaning_of d) rest
 of_device (Faithful d) rest = whole d.sectors.memory.now rest
 of_device (Torn d) rest = whole d.sectors.memory.now rest
 

@@ -10,13 +10,13 @@ use Rattle.std.specs.declared.ops.ControlFlow.TheVariants.{Continue, Break}
 use Rattle.history.specs.declared.calls.Call.{Call}
 use Rattle.history.specs.declared.calls.Turn.{Turn}
 use Rattle.simulator.specs.Calls.{call_by, turn_in, added, Extends}
-use Rattle.simulator.specs.Feeds.{Holds, IsBegun, Takes, held_row, Answers, GoesOn, Stops, Ends}
-use Rattle.simulator.specs.Files.{Flow, flow_after, unless_broken, rows_after, rows_of, last_run, begun as begun_run, print_of_file, FileServed}
+use Rattle.simulator.specs.Feeds.{HoldsStart, IsBegun, TakesRows, held_row, AnswersHeld, ReadsOn, StopsRun, Ends, HasTaken, HasPrinted, HasRead, Gains, PrintsPiece, PrintsToStop, PrintsToEnd}
+use Rattle.simulator.specs.Files.{Flow, flow_after, unless_broken, rows_after, rows_of, last_run, first_run}
 use Rattle.simulator.specs.Histories.{RunServed}
 use Rattle.simulator.specs.Lines.{line_end, up_to, first_bytes, ended_if, lines_from, lines_of, held}
 use Rattle.simulator.specs.Request.{command_in, fields_in}
 use Rattle.simulator.specs.Stages.{View}
-use Rattle.simulator.specs.Steps.{Done, denied, asked, step_of}
+use Rattle.simulator.specs.Steps.{Done, denial_done, command_done, step_of}
 use Rattle.simulator.specs.Takes.{Run, run_of, Row, row_of, run_after, print_of, turn_of, Taken, taken_by, counted, ended_by}
 use Rattle.simulator.specs.declared.answer.Answer.{Answer}
 use Rattle.simulator.specs.declared.answer.Denial.{Denial}
@@ -29,8 +29,8 @@ use Rattle.simulator.proofs.Enough.{tells_as_much}
 -- a line does what its first 22 bytes do
 same_step : (v : View) (line : List ℕ) → step_of v (take 22 line) ≡ step_of v line
 same_step v line =
-    ap (λ c. asked v c (λ command. fields_in command (take 22 line))) (tells_as_much.command line)
-    ∙ ap (asked v (command_in line)) (λ i command. tells_as_much.fields command line i)
+    ap (λ c. command_done v c (λ command. fields_in command (take 22 line))) (tells_as_much.command line)
+    ∙ ap (command_done v (command_in line)) (λ i command. tells_as_much.fields command line i)
 
 same_row : (run : Run) (line : List ℕ) → row_of run (take 22 line) ≡ row_of run line
 same_row run line =
@@ -38,7 +38,7 @@ same_row run line =
     ap (λ c. call_by c (λ command. fields_in command (take 22 line))) (tells_as_much.command line)
     ∙ ap (call_by (command_in line)) (λ i command. tells_as_much.fields command line i) in
     let done =
-    ap (λ (d : Done). ended_by (cond (leb (counted run.taken) 999999) d (denied TooMany run.view))) (same_step run.view line) in
+    ap (λ (d : Done). ended_by (cond (leb (counted run.taken) 999999) d (denial_done TooMany run.view))) (same_step run.view line) in
     same_parts (counted run.taken) call done
   where
     same_parts :
@@ -122,26 +122,26 @@ module _ (line rest more : List ℕ) (n : ℕ) (ends : line_end rest ≡ Some n)
 
   module _ (f f' : Feed) (print print' : List ℕ) (same : held f.partial ≡ take 22 (take 22 line ++ first_bytes rest)) where
     by_flow :
-        (flow : Flow) → Answers f print flow f' print' →
+        (flow : Flow) → AnswersHeld f print flow f' print' →
         rows_of (lines_from (rest ++ more) line) (run_of f.simulator) ≡ held_row f ∷ unless_broken next (held_row f) flow
     by_flow flow a =
         tells_line (run_of f.simulator) (held f.partial) same
         ∙ ap (λ (x : Flow). held_row f ∷ unless_broken next (held_row f) x) (sym a.flows)
 
     pub run_goes_on :
-        Answers f print (Continue tt) f' print' →
+        AnswersHeld f print (Continue tt) f' print' →
         rows_of (lines_from (rest ++ more) line) (run_of f.simulator) ≡ held_row f ∷ next (run_of f'.simulator)
     run_goes_on a = by_flow (Continue tt) a ∙ ap (λ (r : Run). held_row f ∷ next r) (sym a.takes.run)
 
     pub run_stops :
-        Answers f print (Break tt) f' print' →
+        AnswersHeld f print (Break tt) f' print' →
         rows_of (lines_from (rest ++ more) line) (run_of f.simulator) ≡ held_row f ∷ []
     run_stops a = by_flow (Break tt) a
 
 -- bytes without a line feed are held
 pub still_holds :
-    (partial partial' : Partial) (line rest : List ℕ) → Holds partial line → line_end rest ≡ None →
-    held partial' ≡ take 22 (held partial ++ first_bytes rest) → Holds partial' (line ++ rest)
+    (partial partial' : Partial) (line rest : List ℕ) → HoldsStart partial line → line_end rest ≡ None →
+    held partial' ≡ take 22 (held partial ++ first_bytes rest) → HoldsStart partial' (line ++ rest)
 still_holds partial partial' line rest holds none filled =
     filled
     ∙ ap (λ (xs : List ℕ). take 22 (xs ++ first_bytes rest)) holds
@@ -155,7 +155,7 @@ nothing_follows row (Break done) = refl
 nothing_follows row (Continue done) = refl
 
 pub last_row :
-    (run : Run) (partial : Partial) (line : List ℕ) → Holds partial line → (length (held partial) ≡ 0 → ⊥) →
+    (run : Run) (partial : Partial) (line : List ℕ) → HoldsStart partial line → (length (held partial) ≡ 0 → ⊥) →
     row_of run (held partial) ∷ [] ≡ rows_of (lines_from [] line) run
 unfolding lines_from rows_of
 last_row run partial [] holds some = absurd (some (ap length holds))
@@ -165,7 +165,7 @@ last_row run partial (b ∷ bytes) holds some =
     ∙ sym (ap (λ (rows : List Row). row ∷ rows) (nothing_follows row (flow_after row.done.answer)))
 
 pub no_row :
-    (run : Run) (partial : Partial) (line : List ℕ) → Holds partial line → length (held partial) ≡ 0 →
+    (run : Run) (partial : Partial) (line : List ℕ) → HoldsStart partial line → length (held partial) ≡ 0 →
     [] ≡ rows_of (lines_from [] line) run
 unfolding lines_from rows_of
 no_row run partial [] holds none = refl
@@ -173,7 +173,7 @@ no_row run partial (b ∷ bytes) holds none =
     absurd (let e : length (take 22 (b ∷ bytes)) ≡ 0 = sym (ap length holds) ∙ none in omega (arith, e))
 
 -- no line is taken
-pub takes_none : (s : Simulator) (print : List ℕ) → Takes s print [] s print
+pub takes_none : (s : Simulator) (print : List ℕ) → TakesRows s print [] s print
 takes_none s print =
     record {
       run = refl;
@@ -191,7 +191,7 @@ pub takes_one :
     ◌≡◌ {A = Taken} (record { answer = answer; run = run_of s'; print = columns })
     (taken_by (run_of s) line (replicate 34 0)) →
     Extends (RunServed s.stage) (turn_in line answer) (RunServed s'.stage) →
-    Takes s print (row_of (run_of s) line ∷ []) s' (print ++ columns)
+    TakesRows s print (row_of (run_of s) line ∷ []) s' (print ++ columns)
 takes_one s s' line print columns answer took serves =
     let row = row_of (run_of s) line in
     record {
@@ -210,8 +210,8 @@ after-append run [] more = refl
 after-append run (row ∷ rows) more = after-append (run_after row) rows more
 
 pub takes_more :
-    {s t u : Simulator} {print print' print'' : List ℕ} {rows more : List Row} → Takes s print rows t print' →
-    Takes t print' more u print'' → Takes s print (rows ++ more) u print''
+    {s t u : Simulator} {print print' print'' : List ℕ} {rows more : List Row} → TakesRows s print rows t print' →
+    TakesRows t print' more u print'' → TakesRows s print (rows ++ more) u print''
 takes_more {s} {t} {u} {print} {print'} {print''} {rows} {more} first second =
     record {
       run =
@@ -230,36 +230,115 @@ takes_more {s} {t} {u} {print} {print'} {print''} {rows} {more} first second =
           (second.serves (turns ++ filter_map turn_of rows) (first.serves turns served));
     }
 
--- a whole file that is read as one piece
-module _ (memory file print : List ℕ) (f : Feed) (begun : IsBegun memory f) where
-  abbrev pub Printed : List ℕ → Type 0
-  Printed print' = (print' ≡ print ++ print_of_file memory file) × FileServed memory file
+-- a run over a memory takes lines, and then more
+module _ {memory print print' printed : List ℕ} {rows more : List Row} {s s' : Simulator} (so_far : HasTaken memory rows printed s) (takes : TakesRows s print more s' print') where
+  pub taken_on : HasTaken memory (rows ++ more) (printed ++ flat_map print_of more) s'
+  taken_on =
+      record {
+        run =
+            takes.run
+            ∙ ap (λ (r : Run). last_run r more) so_far.run
+            ∙ sym (after-append (first_run memory) rows more);
+        prints =
+            ap (λ (xs : List ℕ). xs ++ flat_map print_of more) so_far.prints
+            ∙ sym (flat_map-append print_of rows more);
+        served =
+            subst (λ (xs : List Turn). RunServed s'.stage xs) (sym (filter_map-append turn_of rows more))
+            (takes.serves (filter_map turn_of rows) so_far.served);
+      }
 
-  printed :
-      (rows : List Row) (s : Simulator) (print' : List ℕ) → rows_of (lines_of (file ++ [])) (run_of f.simulator) ≡ rows →
-      Takes f.simulator print rows s print' → Printed print'
-  printed rows s print' all takes =
-      let same : rows ≡ rows_of (lines_of file) (begun_run memory) =
-      sym all
-      ∙ ap (λ (xs : List ℕ). rows_of (lines_of xs) (run_of f.simulator)) (append-nil file)
-      ∙ ap (rows_of (lines_of file)) begun.run in (
-        takes.prints ∙ ap (λ (x : List Row). print ++ flat_map print_of x) same,
-        record {
-          stage = s.stage;
-          comes_to = ap (λ (r : Run). r.view) (takes.run ∙ ap (λ (r : Run). last_run r rows) begun.run ∙ ap (last_run (begun_run memory)) same);
-          served =
-              subst (λ (x : List Row). RunServed s.stage (filter_map turn_of x)) same (takes.serves [] begun.served);
-        },
+  pub gains : {Fact : List ℕ → Type 0} → Fact (flat_map print_of more) → Gains print print' Fact
+  gains fact = (flat_map print_of more, takes.prints, fact)
+
+-- what was read of a file
+pub has_read :
+    (memory bytes print line : List ℕ) (rows : List Row) (f : Feed) → HasTaken memory rows print f.simulator →
+    HoldsStart f.partial line →
+    ((more : List ℕ) →
+    rows_of (lines_of (bytes ++ more)) (first_run memory) ≡ rows ++ rows_of (lines_from more line) (run_of f.simulator)) →
+    HasRead memory bytes print f
+has_read memory bytes print line rows f takes holds splits =
+    record {
+      rows = rows;
+      takes = takes;
+      unended = line;
+      holds = holds;
+      splits = splits;
+      tells =
+          λ more.
+          ap (flat_map print_of) (splits more)
+          ∙ flat_map-append print_of rows (rows_of (lines_from more line) (run_of f.simulator))
+          ∙ ap (λ (xs : List ℕ). xs ++ flat_map print_of (rows_of (lines_from more line) (run_of f.simulator))) (sym takes.prints);
+    }
+
+pub reads_nothing : {memory : List ℕ} {f : Feed} → IsBegun memory f → HasRead memory [] [] f
+reads_nothing {memory} {f} begun =
+    has_read memory [] [] [] [] f
+    (record { run = begun.run; prints = refl; served = begun.served })
+    begun.holds
+    (λ more. ap (rows_of (lines_of more)) (sym begun.run))
+
+-- the lines that are read on, by those of the piece
+module _ {memory bytes printed : List ℕ} (piece : List ℕ) {f : Feed} (read : HasRead memory bytes printed f) where
+  rows_on :
+      (rest : List ℕ) →
+      rows_of (lines_of ((bytes ++ piece) ++ rest)) (first_run memory)
+      ≡ read.rows ++ rows_of (lines_from (piece ++ rest) read.unended) (run_of f.simulator)
+  rows_on rest =
+      ap (λ (xs : List ℕ). rows_of (lines_of xs) (first_run memory)) (append_assoc bytes piece rest)
+      ∙ read.splits (piece ++ rest)
+
+  pub reads_on :
+      (print print' : List ℕ) (f' : Feed) → ReadsOn f piece print f' [] print' →
+      Gains print print' (λ more. HasRead memory (bytes ++ piece) (printed ++ more) f')
+  reads_on print print' f' goes_on =
+      let on = goes_on read.unended read.holds in
+      gains read.takes on.takes
+      (has_read memory (bytes ++ piece) _ on.unended (read.rows ++ on.rows) f' (taken_on read.takes on.takes) on.holds
+      (λ rest.
+      rows_on rest
+      ∙ ap (λ (xs : List Row). read.rows ++ xs) (on.splits rest)
+      ∙ sym (append_assoc read.rows on.rows _)))
+
+  pub stops_in :
+      (print print' : List ℕ) (f' : Feed) → StopsRun f piece print f' print' →
+      Gains print print' (λ more. (rest : List ℕ) → HasPrinted memory ((bytes ++ piece) ++ rest) (printed ++ more) f'.simulator)
+  stops_in print print' f' stops =
+      let on = stops read.unended read.holds in
+      gains read.takes on.takes
+      (λ rest.
+      subst (λ (rows : List Row). HasTaken memory rows (printed ++ flat_map print_of on.rows) f'.simulator)
+      (sym (rows_on rest ∙ ap (λ (xs : List Row). read.rows ++ xs) (on.all rest)))
+      (taken_on read.takes on.takes))
+
+pub ends_there :
+    {memory bytes printed : List ℕ} (print print' : List ℕ) {f : Feed} (f' : Feed) → HasRead memory bytes printed f → Ends f print f' print' →
+    Gains print print' (λ more. HasPrinted memory bytes (printed ++ more) f'.simulator)
+ends_there {memory} {bytes} {printed} print print' {f} f' read ends =
+    let takes = ends read.unended read.holds in
+    gains read.takes takes
+    (subst (λ (rows : List Row). HasTaken memory rows (printed ++ flat_map print_of (rows_of (lines_from [] read.unended) (run_of f.simulator))) f'.simulator)
+    (sym (read.splits []) ∙ ap (λ (xs : List ℕ). rows_of (lines_of xs) (first_run memory)) (append-nil bytes))
+    (taken_on read.takes takes))
+
+-- a piece with which the file ends
+module _ {memory bytes printed : List ℕ} (piece print print' : List ℕ) {f : Feed} (f' : Feed) (read : HasRead memory bytes printed f) where
+  abbrev pub Printed : Type 0
+  Printed = Gains print print' (λ more. HasPrinted memory (bytes ++ piece) (printed ++ more) f'.simulator)
+
+  pub prints_stopped : PrintsToStop f piece print f' print' → Printed
+  prints_stopped stops =
+      let all = stops memory bytes printed read in (
+        all.0,
+        all.1,
+        subst (λ (file : List ℕ). HasPrinted memory file (printed ++ all.0) f'.simulator) (append-nil (bytes ++ piece)) (all.2 []),
       )
 
-  pub file_ends :
-      (f'' : Feed) {f' : Feed} {print' print'' : List ℕ} → GoesOn f file print f' [] print' → Ends f' print' f'' print'' →
-      Printed print''
-  file_ends f'' {f'} {print'} {print''} goes_on ends =
-      let read = goes_on [] begun.holds in
-      printed _ f''.simulator print'' (read.splits []) (takes_more read.takes (ends read.unended read.holds))
-
-  pub file_stops : {f' : Feed} {print' : List ℕ} → Stops f file print f' print' → Printed print'
-  file_stops {f'} {print'} stops =
-      let read = stops [] begun.holds in
-      printed read.rows f'.simulator print' (read.all []) read.takes
+  pub prints_ended : (between : Feed) (so_far : List ℕ) → PrintsPiece f piece print between so_far → PrintsToEnd between so_far f' print' → Printed
+  prints_ended between so_far goes ends =
+      let on = goes memory bytes printed read in
+      let last = ends memory (bytes ++ piece) (printed ++ on.0) on.2 in (
+        on.0 ++ last.0,
+        last.1 ∙ ap (λ (xs : List ℕ). xs ++ last.0) on.1 ∙ append_assoc print on.0 last.0,
+        subst (λ (xs : List ℕ). HasPrinted memory (bytes ++ piece) xs f'.simulator) (append_assoc printed on.0 last.0) last.2,
+      )

@@ -2,12 +2,12 @@
 use Rattle.std.proofs.Common.{◌≡◌, ℕ, zero, suc, ◌+◌, ◌/◌, ◌%◌, ◌≤◌, List, [], ◌∷◌, ◌++◌, length, get_or, take, drop, set, sym, refl, ap, ◌∙◌, append_assoc, add-one, arith}
 use borrow.Rule.Slice.PartMut.{put_mid}
 use Rattle.std.proofs.lemmas.List.{length-append, length-drop, length-take-le, take_at, drop_at, set_at, drop-drop, drop_more, drop_all, nil_from_length}
-use Rattle.simulator.specs.Print.{column, before, justified, printed}
+use Rattle.simulator.specs.Print.{column, columns_before, justified, printed}
 use Rattle.simulator.specs.declared.answer.Columns.{Columns}
 
 -- no columns
-pub no_columns : (xs : List ℕ) (n : ℕ) → length xs ≡ 0 → xs ≡ before (length xs) n
-unfolding before
+pub no_columns : (xs : List ℕ) (n : ℕ) → length xs ≡ 0 → xs ≡ columns_before (length xs) n
+unfolding columns_before
 no_columns xs n e = rw (nil_from_length xs e)
 
 pub none : (xs : List ℕ) (n : ℕ) → length xs ≡ 0 → xs ≡ justified (length xs) n
@@ -15,26 +15,26 @@ unfolding justified
 none xs n e = rw (nil_from_length xs e)
 
 -- one column more
-pub one_more : (w v n : ℕ) → v + 1 ≡ w → before v (n / 10) ++ (column n ∷ []) ≡ before w n
-unfolding before
+pub one_more : (w v n : ℕ) → v + 1 ≡ w → columns_before v (n / 10) ++ (column n ∷ []) ≡ columns_before w n
+unfolding columns_before
 one_more w v n e = let k : w ≡ suc v = omega arith in rw k refl
 
-pub last_one : (w v n : ℕ) → v + 1 ≡ w → before v (n / 10) ++ ((48 + n % 10) ∷ []) ≡ justified w n
+pub last_one : (w v n : ℕ) → v + 1 ≡ w → columns_before v (n / 10) ++ ((48 + n % 10) ∷ []) ≡ justified w n
 unfolding justified
 last_one w v n e = let k : w ≡ suc v = omega arith in rw k refl
 
 -- the columns are as many as asked for
-length_before : (w n : ℕ) → length (before w n) ≡ w
-unfolding before
+length_before : (w n : ℕ) → length (columns_before w n) ≡ w
+unfolding columns_before
 length_before zero n = refl
 length_before (suc w) n =
-    length-append (before w (n / 10)) (column n ∷ []) ∙ ap (λ (k : ℕ). k + 1) (length_before w (n / 10)) ∙ add-one w
+    length-append (columns_before w (n / 10)) (column n ∷ []) ∙ ap (λ (k : ℕ). k + 1) (length_before w (n / 10)) ∙ add-one w
 
 pub length-justified : (w n : ℕ) → length (justified w n) ≡ w
 unfolding justified
 length-justified zero n = refl
 length-justified (suc w) n =
-    length-append (before w (n / 10)) ((48 + n % 10) ∷ []) ∙ ap (λ (k : ℕ). k + 1) (length_before w (n / 10)) ∙ add-one w
+    length-append (columns_before w (n / 10)) ((48 + n % 10) ∷ []) ∙ ap (λ (k : ℕ). k + 1) (length_before w (n / 10)) ∙ add-one w
 
 -- a number written into the next k columns of a line whose front is done
 pub record Placed (front rest ys whole : List ℕ) (at k n : ℕ) : Type 0 where

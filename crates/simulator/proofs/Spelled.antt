@@ -4,8 +4,8 @@ use Rattle.std.proofs.lemmas.Fmt.{decimal_digit, decimal_step, decimal_by_steps,
 use Rattle.std.proofs.lemmas.List.{append-nil, length-append, replicate_more}
 use Rattle.std.proofs.lemmas.Bool.{cases_lt, ne_eqb, eqb-true, eqb-false}
 use Rattle.std.proofs.lemmas.Bool.Decides.{nat_tests}
-use Rattle.simulator.specs.Field.{is_digit, after_byte, told, field, number_of}
-use Rattle.simulator.specs.Print.{before, justified}
+use Rattle.simulator.specs.Field.{is_digit, after_byte, number_after, field, told_number}
+use Rattle.simulator.specs.Print.{columns_before, justified}
 use Rattle.simulator.specs.declared.field.Told.{Told}
 use Rattle.simulator.specs.declared.field.Told.TheVariants.{Spaces, Number, Wrong}
 use Rattle.simulator.specs.Columns.{spaced, NumbersInColumns}
@@ -15,7 +15,7 @@ unfoldable pub after_bytes : Told → List ℕ → Told
 after_bytes t [] = t
 after_bytes t (b ∷ bs) = after_bytes (after_byte t b) bs
 
-pub told_is : (t : Told) (bs : List ℕ) → told t bs ≡ number_of (after_bytes t bs)
+pub told_is : (t : Told) (bs : List ℕ) → number_after t bs ≡ told_number (after_bytes t bs)
 unfolding after_bytes
 told_is t [] = refl
 told_is t (b ∷ bs) = told_is (after_byte t b) bs
@@ -55,16 +55,16 @@ spelled n l =
         after_push Spaces ds (48 + n % 10) ∙ ap (λ (t : Told). after_byte t (48 + n % 10)) h ∙ next_digit (n / 10) (n % 10) (omega arith) (omega arith) ∙ ap Number v
 
 told-spaced : (k n : ℕ) → n < 2 ^ 64 → field (spaced k n) ≡ Some n
-told-spaced zero n l = told_is Spaces (decimal n) ∙ ap number_of (spelled n l)
+told-spaced zero n l = told_is Spaces (decimal n) ∙ ap told_number (spelled n l)
 told-spaced (suc k) n l = told-spaced k n l
 
 -- nothing is told once a byte was wrong
-no_number : (n : ℕ) (bs : List ℕ) → told Wrong bs ≡ Some n → ⊥
+no_number : (n : ℕ) (bs : List ℕ) → number_after Wrong bs ≡ Some n → ⊥
 no_number n [] e = let z : ◌≡◌ {A = ℕ} 0 1 = cc in omega arith
 no_number n (b ∷ bs) e = no_number n bs e
 
 -- a digit that followed: what it was, and what is told with it
-goes_on : (b v n : ℕ) (bs : List ℕ) (test zero' : Bool) → is_digit b ≡ test → eqb v 0 ≡ zero' → told (cond (test && not zero') (Number (10 * v + (b - 48))) Wrong) bs ≡ Some n → (is_digit b ≡ true) × (eqb v 0 ≡ false) × (told (Number (10 * v + (b - 48))) bs ≡ Some n)
+goes_on : (b v n : ℕ) (bs : List ℕ) (test zero' : Bool) → is_digit b ≡ test → eqb v 0 ≡ zero' → number_after (cond (test && not zero') (Number (10 * v + (b - 48))) Wrong) bs ≡ Some n → (is_digit b ≡ true) × (eqb v 0 ≡ false) × (number_after (Number (10 * v + (b - 48))) bs ≡ Some n)
 goes_on b v n bs true false d z e = (d, z, e)
 goes_on b v n bs true true d z e = absurd (no_number n bs e)
 goes_on b v n bs false zero' d z e = absurd (no_number n bs e)
@@ -73,7 +73,7 @@ is_between : (b : ℕ) → is_digit b ≡ true → (48 ≤ b) × (b ≤ 57)
 is_between b h = (grind (arith, nat_tests), grind (arith, nat_tests))
 
 -- a number only grows as digits follow
-grows : (v n : ℕ) (bs : List ℕ) → told (Number v) bs ≡ Some n → v ≤ n
+grows : (v n : ℕ) (bs : List ℕ) → number_after (Number v) bs ≡ Some n → v ≤ n
 grows v n [] e = let q : v ≡ n = cc in omega arith
 grows v n (b ∷ bs) e =
     let g = goes_on b v n bs _ _ refl refl e in
@@ -81,7 +81,7 @@ grows v n (b ∷ bs) e =
     omega arith
 
 -- the digits that are left complete the number
-completes : (v n : ℕ) (bs : List ℕ) → n < 2 ^ 64 → told (Number v) bs ≡ Some n → decimal v ++ bs ≡ decimal n
+completes : (v n : ℕ) (bs : List ℕ) → n < 2 ^ 64 → number_after (Number v) bs ≡ Some n → decimal v ++ bs ≡ decimal n
 completes v n [] l e = let q : v ≡ n = cc in append-nil (decimal v) ∙ ap decimal q
 completes v n (b ∷ bs) l e =
     let g = goes_on b v n bs _ _ refl refl e in
@@ -100,7 +100,7 @@ completes v n (b ∷ bs) l e =
     more_than (suc v) d some = omega arith
 
 -- the first byte: a space, or the first digit
-begins : (b n : ℕ) (bs : List ℕ) (space test : Bool) → eqb b 32 ≡ space → is_digit b ≡ test → told (cond space Spaces (cond test (Number (b - 48)) Wrong)) bs ≡ Some n → ((b ≡ 32) × (told Spaces bs ≡ Some n)) ⊎ ((is_digit b ≡ true) × (told (Number (b - 48)) bs ≡ Some n))
+begins : (b n : ℕ) (bs : List ℕ) (space test : Bool) → eqb b 32 ≡ space → is_digit b ≡ test → number_after (cond space Spaces (cond test (Number (b - 48)) Wrong)) bs ≡ Some n → ((b ≡ 32) × (number_after Spaces bs ≡ Some n)) ⊎ ((is_digit b ≡ true) × (number_after (Number (b - 48)) bs ≡ Some n))
 begins b n bs true test s d e = inl (eqb-true b 32 s, e)
 begins b n bs false true s d e = inr (d, e)
 begins b n bs false false s d e = absurd (no_number n bs e)
@@ -119,14 +119,14 @@ only_spaced (b ∷ bs) n l e =
     (begins b n bs _ _ refl refl e)
 
 -- a number is printed as spaces and then the number
-before-none : (w : ℕ) → before w 0 ≡ replicate w 32
-unfolding before
+before-none : (w : ℕ) → columns_before w 0 ≡ replicate w 32
+unfolding columns_before
 before-none zero = refl
 before-none (suc w) =
     ap (λ (xs : List ℕ). xs ++ (32 ∷ [])) (before-none w) ∙ replicate_more w 32 ∙ ap (λ (k : ℕ). replicate k 32) (add-one w)
 
-before_some : (w n : ℕ) → 1 ≤ n → before w n ≡ justified w n
-unfolding before justified
+before_some : (w n : ℕ) → 1 ≤ n → columns_before w n ≡ justified w n
+unfolding columns_before justified
 before_some zero n some = refl
 before_some (suc w) n some =
     let z : eqb n 0 ≡ false = ne_eqb n 0 (λ e. omega arith) in
@@ -142,7 +142,7 @@ printed-spaced (suc w) n l fits =
     let same : n % 10 ≡ n = omega arith in
     let one : decimal n ≡ (48 + n) ∷ [] = decimal_digit n small in
     let room : suc w - length (decimal n) ≡ w = omega (arith, ap length one) in
-    ap (λ (x : ℕ). before w x ++ ((48 + n % 10) ∷ [])) none ∙ ap (λ (xs : List ℕ). xs ++ ((48 + n % 10) ∷ [])) (before-none w) ∙ ap (λ (x : ℕ). replicate w 32 ++ ((48 + x) ∷ [])) same ∙ ap (λ (xs : List ℕ). replicate w 32 ++ xs) (sym one) ∙ ap (λ (k : ℕ). replicate k 32 ++ decimal n) (sym room))
+    ap (λ (x : ℕ). columns_before w x ++ ((48 + n % 10) ∷ [])) none ∙ ap (λ (xs : List ℕ). xs ++ ((48 + n % 10) ∷ [])) (before-none w) ∙ ap (λ (x : ℕ). replicate w 32 ++ ((48 + x) ∷ [])) same ∙ ap (λ (xs : List ℕ). replicate w 32 ++ xs) (sym one) ∙ ap (λ (k : ℕ). replicate k 32 ++ decimal n) (sym room))
     (λ (large : 10 ≤ n).
     let step : decimal n ≡ decimal (n / 10) ++ ((48 + n % 10) ∷ []) = decimal_step n large l in
     let long : length (decimal n) ≡ length (decimal (n / 10)) + 1 = ap length step ∙ length-append (decimal (n / 10)) ((48 + n % 10) ∷ []) in

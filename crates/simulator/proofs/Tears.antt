@@ -6,7 +6,7 @@ use Rattle.disk.specs.Tearing.{torn_equal}
 use Rattle.disk.specs.Memory.{sectors}
 use Rattle.disk.specs.declared.memory.MemoryDisk.{MemoryDisk}
 use Rattle.disk.specs.declared.torn.Held.{Held}
-use Rattle.simulator.specs.Devices.{meaning_of, make_of, device_moves, torn_apart, cut_by}
+use Rattle.simulator.specs.Devices.{meaning_of, make_of, device_moves, torn_apart, after_cut}
 use Rattle.simulator.specs.declared.device.Device.{Device}
 use Rattle.simulator.specs.declared.device.Device.TheVariants.{Faithful, Torn}
 
@@ -43,7 +43,7 @@ all_left supply beyond left = record { reading = left; kept = left; supply = sup
 -- a cut of either disk, by its own relation: it is the same disk, as the tear leaves it
 pub cut_is :
     (d d' : Device) (tear supply : ℕ) → device_moves.cuts d tear supply d' →
-    (make_of d' ≡ make_of d) × (meaning_of d' ≡ cut_by (make_of d) tear supply (meaning_of d))
+    (make_of d' ≡ make_of d) × (meaning_of d' ≡ after_cut (make_of d) tear supply (meaning_of d))
 cut_is (Faithful d) (Faithful d') tear supply e = (refl, ap (means write_through.before) e)
 cut_is (Torn d) (Torn d') tear supply e = (
   refl,

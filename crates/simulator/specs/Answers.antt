@@ -1,5 +1,5 @@
 -- What is printed of each answer and of each denial.
-use Rattle.std.specs.Prelude.{ℕ, Bool, cond, ◌&&◌, Ok, Err, Result, nat_le, nat_lt, unwrap_or}
+use Rattle.std.specs.Prelude.{ℕ, Bool, if◌then◌else◌, ◌&&◌, Ok, Err, Result, nat_le, nat_lt, unwrap_or}
 use Rattle.kind.specs.Fault.{number_of}
 use Rattle.server.specs.Faults.{particulars}
 use Rattle.server.specs.declared.fault.ServerFault.{ServerFault}
@@ -12,7 +12,7 @@ use Rattle.simulator.specs.declared.answer.Denial.TheVariants.{ShortPrint, Malfo
 
 -- a series as it is printed
 abbrev pub shown : ℕ → ℕ
-shown series = cond (nat_lt series 8) series 0
+shown series = if nat_lt series 8 then series else 0
 
 -- a code, and 0 beside it
 abbrev pub coded : ℕ → Columns

@@ -7,10 +7,11 @@ use Rattle.simulator.specs.Print.{justified}
 abbrev pub spaced : ℕ → ℕ → List ℕ
 spaced spaces number = replicate spaces 32 ++ decimal number
 
--- a field tells a number just where it is spaces and then that number; and a number is printed as spaces and then the number,
--- as many as fill the columns
+-- a field tells a number just where it is spaces and then that number; and a number is printed as spaces and then the
+-- number, as many as fill the columns
 pub record NumbersInColumns : Type 0 where
-  pub told : (spaces number : ℕ) → number < 2 ^ 64 → field (spaced spaces number) ≡ Some number
+  pub told :
+      (spaces number : ℕ) → number < 2 ^ 64 → field (spaced spaces number) ≡ Some number
   pub only :
       (bytes : List ℕ) (number : ℕ) → number < 2 ^ 64 → field bytes ≡ Some number →
       (spaces : ℕ) × (bytes ≡ spaced spaces number)

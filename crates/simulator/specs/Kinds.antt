@@ -37,4 +37,10 @@ identifier_of (Time k) = time_identifier k
 -- what a kind tells
 abbrev pub numbering_of : AnyKind → Numbering
 numbering_of kind =
-    record { tag = tag_of kind; top = top_of kind; block = block_of kind; floor = floor_of kind; identifier = identifier_of kind }
+    record {
+      tag = tag_of kind;
+      top = top_of kind;
+      block = block_of kind;
+      floor = floor_of kind;
+      identifier = identifier_of kind;
+    }

@@ -1,13 +1,14 @@
 -- A stream of bytes cut into lines, and how much of a line has to be held.
-use Rattle.std.specs.Prelude.{◌≡◌, ℕ, suc, Bool, true, false, cond, List, [], ◌∷◌, ◌++◌, take, Some, None, Option, ◌==◌, option_map}
+use Rattle.std.specs.Prelude.{◌≡◌, ℕ, suc, Bool, true, false, if◌then◌else◌, List, [], ◌∷◌, ◌++◌, take, Some, None, Option, ◌==◌, option_map}
 use Rattle.simulator.specs.Request.{command_in, fields_in}
 use Rattle.simulator.specs.declared.partial.Partial.{Partial}
+use Rattle.simulator.specs.declared.partial.TheConstants.{HELD_BYTES}
 use Rattle.simulator.specs.declared.request.Command.{Command}
 
 -- the count of bytes up to the first line feed and with it, if there is one
 abbrev pub line_end : List ℕ → Option ℕ
 line_end [] = None
-line_end (b ∷ bs) = cond (b == 10) (Some 1) (option_map suc (line_end bs))
+line_end (b ∷ bs) = if b == 10 then Some 1 else option_map suc (line_end bs)
 
 -- the bytes of the first line, or all of them where no line feed comes
 abbrev pub up_to : List ℕ → Option ℕ → List ℕ
@@ -38,7 +39,7 @@ lines_of bytes = lines_from bytes []
 abbrev pub held : Partial → List ℕ
 held p = take p.count p.bytes
 
--- the first 22 bytes of a line have its command and its fields, or the same first wrong item
+-- the first bytes of a line, as many as are held, have its command and its fields, or the same first wrong item
 pub record TellsAsMuch : Type 0 where
-  pub command : (line : List ℕ) → command_in (take 22 line) ≡ command_in line
-  pub fields : (c : Command) (line : List ℕ) → fields_in c (take 22 line) ≡ fields_in c line
+  pub command : (line : List ℕ) → command_in (take HELD_BYTES line) ≡ command_in line
+  pub fields : (c : Command) (line : List ℕ) → fields_in c (take HELD_BYTES line) ≡ fields_in c line

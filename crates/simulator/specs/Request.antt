@@ -1,5 +1,5 @@
--- A request line: a letter, field A in columns 2 to 6, field B in columns 7 to 20, and a line feed.
-use Rattle.std.specs.Prelude.{ℕ, Bool, true, false, cond, ◌&&◌, ◌||◌, List, [], ◌∷◌, length, Some, None, Ok, Err, Option, Result, ◌==◌, nat_le, slice_index}
+-- A request line of 21 columns: the letter in 1, field A up to 6, field B up to 20, the line feed in 21.
+use Rattle.std.specs.Prelude.{ℕ, Bool, true, false, if◌then◌else◌, ◌&&◌, ◌||◌, List, [], ◌∷◌, length, Some, None, Ok, Err, Option, Result, ◌==◌, nat_le, slice_index}
 use Rattle.std.specs.List.{between}
 use Rattle.simulator.specs.Field.{field}
 use Rattle.simulator.specs.declared.request.Command.{Command}
@@ -11,12 +11,13 @@ use Rattle.simulator.specs.declared.request.Item.TheVariants.{Letter, A as Field
 -- the letters D, S, T, B, G and C
 abbrev pub command_for : ℕ → Option Command
 command_for letter =
-    cond (letter == 68) (Some Disk)
-    (cond (letter == 83) (Some Serial)
-    (cond (letter == 84) (Some Time)
-    (cond (letter == 66) (Some Box)
-    (cond (letter == 71) (Some Give)
-    (cond (letter == 67) (Some Cut) None)))))
+    if letter == 68 then Some Disk
+    else if letter == 83 then Some Serial
+    else if letter == 84 then Some Time
+    else if letter == 66 then Some Box
+    else if letter == 71 then Some Give
+    else if letter == 67 then Some Cut
+    else None
 
 -- the command of a line, by its first byte
 abbrev pub command_in : List ℕ → Option Command
@@ -32,16 +33,13 @@ column_of LineFeed = 21
 
 -- field B must be 0 after S and T
 abbrev pub uses_b : Command → Bool
-uses_b Disk = true
 uses_b Serial = false
 uses_b Time = false
-uses_b Box = true
-uses_b Give = true
-uses_b Cut = true
+uses_b command = true
 
 -- the number in the bytes from one place up to another; none where the line ends before
 abbrev pub number_at : List ℕ → ℕ → ℕ → Option ℕ
-number_at line from to = cond (nat_le to (length line)) (field (between from to line)) None
+number_at line from to = if nat_le to (length line) then field (between from to line) else None
 
 -- a line has 21 bytes, the last of them a line feed
 abbrev pub is_closed : List ℕ → Bool
@@ -51,7 +49,9 @@ is_closed line = length line == 21 && slice_index line 20 == 10
 abbrev pub with_b : Command → List ℕ → ℕ → Option ℕ → Result Fields Item
 with_b command line a None = Err FieldB
 with_b command line a (Some b) =
-    cond (uses_b command || b == 0) (cond (is_closed line) (Ok (record { a = a; b = b })) (Err LineFeed)) (Err FieldB)
+    if uses_b command || b == 0 then
+    if is_closed line then Ok (record { a = a; b = b }) else Err LineFeed
+    else Err FieldB
 
 -- by field A
 abbrev pub with_a : Command → List ℕ → Option ℕ → Result Fields Item

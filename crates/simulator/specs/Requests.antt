@@ -26,20 +26,24 @@ pub record LeftBy (A : Type 0) : Type 0 where
   pub disk : Meaning
 
 -- what the ring's answer makes of a draw, on the disk as it is then
-abbrev pub after_reserving : {A : Type 0} → Up → ℕ → ℕ → ℕ → A → Meaning → Result Reserved RingFault → LeftBy A
+abbrev pub after_reserving :
+    {A : Type 0} → Up → ℕ → ℕ → ℕ → A → Meaning → Result Reserved RingFault → LeftBy A
 after_reserving u s first n given m (Ok reserved) =
     record {
       answer = Ok given;
       state =
-          drawn (with_ring u (record { format = u.ring.format; known = known u.ring.format m.reading })) s reserved.end first n;
+          drawn
+          (with_ring u (record { format = u.ring.format; known = known u.ring.format m.reading }))
+          s reserved.end first n;
       disk = m;
     }
 after_reserving u s first n given m (Err fault) =
     record { answer = Err (OfRing fault); state = stopped u fault; disk = m }
 
--- a reservation, by what the ring refuses it for; else the disk goes by the operations that are tried, and the ranks are given
--- only if all succeed
-abbrev pub reserved_by : {A : Type 0} → Make → Up → Meaning → ℕ → ℕ → ℕ → ℕ → A → Option RingFault → LeftBy A
+-- a reservation, by what the ring refuses it for; else the disk goes by the operations that are tried, and the ranks are
+-- given only if all succeed
+abbrev pub reserved_by :
+    {A : Type 0} → Make → Up → Meaning → ℕ → ℕ → ℕ → ℕ → A → Option RingFault → LeftBy A
 reserved_by make u m s first n end given (Some fault) =
     record { answer = Err (OfRing fault); state = stopped u fault; disk = m }
 reserved_by make u m s first n end given None =
@@ -49,16 +53,22 @@ reserved_by make u m s first n end given None =
     (plan u.ring.format 7 s end m.reading) m.supply)
 
 -- a call on a server that is up, by what it wants
-abbrev pub decided : {A : Type 0} → (ℕ → ℕ → ℕ → Option Range → A) → Make → Up → Meaning → Wish → LeftBy A
+abbrev pub decided :
+    {A : Type 0} → (ℕ → ℕ → ℕ → Option Range → A) → Make → Up → Meaning → Wish → LeftBy A
 decided answers make u m (declines fault) = record { answer = Err fault; state = Awake u; disk = m }
 decided answers make u m (draws s first n None) =
-    record { answer = Ok (answers s first n None); state = drawn u s (block_in u.blocks s).end first n; disk = m }
+    record {
+      answer = Ok (answers s first n None);
+      state = drawn u s (block_in u.blocks s).end first n;
+      disk = m;
+    }
 decided answers make u m (draws s first n (Some claimed)) =
     reserved_by make u m s first n claimed.end (answers s first n (Some claimed))
     (refusal u.ring.format u.ring.known.top.0 s (record { 0 = claimed.end }))
 
 -- a request
 unfoldable pub given_by : Make → Numbering → State → Meaning → ℕ → Reading → LeftBy Identifier
-given_by make k (Down fault) m s reading = record { answer = Err (WasDown fault); state = Down fault; disk = m }
+given_by make k (Down fault) m s reading =
+    record { answer = Err (WasDown fault); state = Down fault; disk = m }
 given_by make k (Awake u) m s reading =
     decided (identified k) make u m (decide k (end_at u) (next_at u) (one s reading))

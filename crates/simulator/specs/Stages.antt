@@ -25,15 +25,15 @@ pub data View : Type 0 where
   has_ended : Option AnyKind → List ℕ → View
 
 -- all bytes of a memory: the sectors of a disk, what is past them in its own part, and the spare
-abbrev pub bytes_of : Meaning → List ℕ → List ℕ
-bytes_of m spare = flat_map (λ sector. sector) m.reading ++ (m.beyond ++ spare)
+abbrev pub memory_bytes : Meaning → List ℕ → List ℕ
+memory_bytes m spare = flat_map (λ sector. sector) m.reading ++ (m.beyond ++ spare)
 
 -- the memory that is left of a run
 abbrev pub left_memory : Left → List ℕ
 left_memory left.Nothing = []
 left_memory (left.Memory memory) = memory.now
-left_memory (left.Disk disk spare) = bytes_of (meaning_of disk) spare.now
-left_memory (left.Server server spare) = bytes_of (meaning_of server.disk) spare.now
+left_memory (left.Disk disk spare) = memory_bytes (meaning_of disk) spare.now
+left_memory (left.Server server spare) = memory_bytes (meaning_of server.disk) spare.now
 
 -- and the kind of its server
 abbrev pub left_kind : Left → Option AnyKind
@@ -45,15 +45,16 @@ abbrev pub view : Stage → View
 view (stage.Device memory) = awaits_disk memory.now
 view (stage.Kind disk spare) = awaits_kind (make_of disk) (meaning_of disk) spare.now
 view (stage.Box disk spare lease) = awaits_box (make_of disk) lease (meaning_of disk) spare.now
-view (stage.Running server spare) = runs (make_of server.disk) server.kind server.state (meaning_of server.disk) spare.now
+view (stage.Running server spare) =
+    runs (make_of server.disk) server.kind server.state (meaning_of server.disk) spare.now
 view (stage.Ended left) = has_ended (left_kind left) (left_memory left)
 
 -- the memory at a stage
 abbrev pub memory_of : View → List ℕ
 memory_of (awaits_disk memory) = memory
-memory_of (awaits_kind make m spare) = bytes_of m spare
-memory_of (awaits_box make lease m spare) = bytes_of m spare
-memory_of (runs make kind state m spare) = bytes_of m spare
+memory_of (awaits_kind make m spare) = memory_bytes m spare
+memory_of (awaits_box make lease m spare) = memory_bytes m spare
+memory_of (runs make kind state m spare) = memory_bytes m spare
 memory_of (has_ended kind memory) = memory
 
 -- the kind of the server at a stage, if there is one
@@ -68,16 +69,11 @@ closed v = has_ended (kind_at v) (memory_of v)
 
 -- a server is put together over the disk
 abbrev pub started : AnyKind → View → View
-started kind (awaits_disk memory) = awaits_disk memory
 started kind (awaits_kind make m spare) = runs make kind (woken (numbering_of kind) m) m spare
 started kind (awaits_box make lease m spare) = runs make kind (woken (numbering_of kind) m) m spare
-started kind (runs make other state m spare) = runs make other state m spare
-started kind (has_ended was memory) = has_ended was memory
+started kind v = v
 
 -- the lease is known
 abbrev pub leased : Lease → View → View
-leased lease (awaits_disk memory) = awaits_disk memory
 leased lease (awaits_kind make m spare) = awaits_box make lease m spare
-leased lease (awaits_box make old m spare) = awaits_box make old m spare
-leased lease (runs make kind state m spare) = runs make kind state m spare
-leased lease (has_ended kind memory) = has_ended kind memory
+leased lease v = v

@@ -1,18 +1,20 @@
 -- The call of the simulator: what it answers, and what it leaves of the run, of the memory and of the print line.
-use Rattle.std.specs.Prelude.{ℕ, ◌+◌, ◌-◌, ◌^◌, min, cond, List, [], ◌++◌, length, drop, Ok, Err, Option, Result, nat_le}
+use Rattle.std.specs.Prelude.{ℕ, ◌+◌, ◌-◌, ◌^◌, min, if◌then◌else◌, List, [], ◌++◌, length, drop, Ok, Err, Option, Result, nat_le}
 use Rattle.history.specs.declared.calls.Call.{Call}
 use Rattle.history.specs.declared.calls.Turn.{Turn}
 use Rattle.simulator.specs.Answers.{ends, columns_of}
 use Rattle.simulator.specs.Calls.{answer_in, call_in, turn_by}
 use Rattle.simulator.specs.Print.{printed}
 use Rattle.simulator.specs.Stages.{View, view, closed}
-use Rattle.simulator.specs.Steps.{Done, denied, step_of}
+use Rattle.simulator.specs.Steps.{Done, denial_done, step_of}
 use Rattle.simulator.specs.declared.answer.Answer.{Answer}
 use Rattle.simulator.specs.declared.answer.Denial.{Denial}
 use Rattle.simulator.specs.declared.answer.Denial.TheVariants.{ShortPrint, TooMany}
 use Rattle.simulator.specs.declared.device.Device.{Device}
 use Rattle.simulator.specs.declared.device.Device.TheVariants.{Faithful, Torn}
+use Rattle.simulator.specs.declared.print.TheConstants.{PRINT_BYTES}
 use Rattle.simulator.specs.declared.simulator.Simulator.{Simulator}
+use Rattle.simulator.specs.declared.simulator.TheConstants.{LAST_LINE}
 use Rattle.simulator.specs.declared.stage.Left.{Left}
 use Rattle.simulator.specs.declared.stage.Left.TheVariants as left
 use Rattle.simulator.specs.declared.stage.Stage.{Stage}
@@ -24,16 +26,17 @@ counted taken = min (taken + 1) (2 ^ 64 - 1)
 
 -- the line number as it is printed
 abbrev pub shown_number : ℕ → ℕ
-shown_number taken = min taken 999999
+shown_number taken = min taken LAST_LINE
 
 -- a denial of 2 to 6 ends the run
 abbrev pub finished : Result Answer Denial → View → View
 finished (Ok answer) v = v
-finished (Err denial) v = cond (ends denial) (closed v) v
+finished (Err denial) v = if ends denial then closed v else v
 
--- a line by its number: past 999,999 it is denied, else it does what it says
-abbrev pub numbered : ℕ → View → List ℕ → Done
-numbered number v line = cond (nat_le number 999999) (step_of v line) (denied TooMany v)
+-- a line by its number: past the last number it is denied, else it does what it says
+abbrev pub by_number : ℕ → View → List ℕ → Done
+by_number number v line =
+    if nat_le number LAST_LINE then step_of v line else denial_done TooMany v
 
 -- and the run ends where it has to
 abbrev pub ended_by : Done → Done
@@ -58,7 +61,7 @@ row_of run line =
     record {
       number = counted run.taken;
       call = call_in line;
-      done = ended_by (numbered (counted run.taken) run.view line);
+      done = ended_by (by_number (counted run.taken) run.view line);
     }
 
 -- the run after it
@@ -82,14 +85,17 @@ pub record Taken : Type 0 where
 -- a line that is taken: it is printed into the first 34 bytes of the print line
 abbrev pub as_row : List ℕ → Row → Taken
 as_row print row =
-    record { answer = row.done.answer; run = run_after row; print = print_of row ++ drop 34 print }
+    record {
+      answer = row.done.answer;
+      run = run_after row;
+      print = print_of row ++ drop PRINT_BYTES print;
+    }
 
 -- a print line of fewer than 34 bytes is denied ahead of all else, and nothing changes
 abbrev pub taken_by : Run → List ℕ → List ℕ → Taken
 taken_by run line print =
-    cond (nat_le 34 (length print))
-    (as_row print (row_of run line))
-    (record { answer = Err ShortPrint; run = run; print = print })
+    if nat_le PRINT_BYTES (length print) then as_row print (row_of run line)
+    else record { answer = Err ShortPrint; run = run; print = print }
 
 -- the very bytes of the memory of a disk
 abbrev pub device_bytes : Device → List ℕ

@@ -22,7 +22,7 @@ pub enum Answer {
 // A line that was denied.
 #[derive(Clone, Copy, PartialEq, Eq, Debug)]
 pub enum Denial {
-    // The print line is shorter than 34 bytes: the request is not taken.
+    // The print line has no room for a print: the request is not taken.
     ShortPrint,
     // An item of the request line is wrong.
     Malformed(Item),

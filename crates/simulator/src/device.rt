@@ -76,7 +76,7 @@ impl Disk for Device<'_> {
 // A disk without records over all of a memory.
 fn new_disk<'a, H: HoldBack>(memory: &'a mut [u8], sectors: usize) -> MemoryDisk<'a, H>
     requires { T (right_size (length memory.old) sectors) }
-    ensures cleared { memory_disk H.holding.before result ≡ cleared sectors 1000000 }
+    ensures cleared { memory_disk H.holding.before result ≡ cleared sectors FIRST_SUPPLY }
     ensures without { WithoutRecords (memory_disk H.holding.before result) }
 {
     let Ok(disk) = blank_disk(memory, sectors, FIRST_SUPPLY) else {
@@ -89,7 +89,7 @@ fn new_disk<'a, H: HoldBack>(memory: &'a mut [u8], sectors: usize) -> MemoryDisk
 fn over<'a>(make: Make, memory: &'a mut [u8], sectors: usize) -> Device<'a>
     requires { T (right_size (length memory.old) sectors) }
     ensures make { make_of result ≡ make }
-    ensures cleared { meaning_of result ≡ cleared sectors 1000000 }
+    ensures cleared { meaning_of result ≡ cleared sectors FIRST_SUPPLY }
     ensures without { WithoutRecords (meaning_of result) }
 {
     match make {
@@ -116,9 +116,9 @@ pub(crate) fn open<'a>(
 ) -> (Device<'a>, &'a mut [u8])
     requires { T (room (length memory.old) sectors) }
     ensures make { make_of result.0 ≡ make }
-    ensures cleared { meaning_of result.0 ≡ cleared sectors 1000000 }
+    ensures cleared { meaning_of result.0 ≡ cleared sectors FIRST_SUPPLY }
     ensures without { WithoutRecords (meaning_of result.0) }
-    ensures spare { result.1.now ≡ drop (32 * sectors) memory.old }
+    ensures spare { result.1.now ≡ drop (SECTOR_BYTES * sectors) memory.old }
 {
     let (front, spare) = split(memory, SECTOR_BYTES * sectors);
     (over(make, front, sectors), spare)

@@ -1,7 +1,7 @@
 // A request file that comes in pieces: the run, and the line that has not ended.
 ghost use Rattle.std.specs.Prelude.{◌≡◌, ◌≤◌, [], length, drop, IfOk, OnOk};
 ghost use Rattle.std.specs.ControlFlow.{MatchControlFlow};
-ghost use Rattle.simulator.specs.Feeds.{Answers, GoesOn, Stops, Ends, IsBegun};
+ghost use Rattle.simulator.specs.Feeds.{AnswersHeld, ReadsOn, StopsRun, Ends, IsBegun, HasRead, PrintsPiece, PrintsToStop, PrintsToEnd, PrintsLast};
 ghost use Rattle.simulator.specs.Files.{flow_after};
 
 use crate::answer::{Answer, Denial};
@@ -39,7 +39,8 @@ fn after(bytes: &[u8], count: usize) -> &[u8]
 impl<'a> Feed<'a> {
     // A run that has read nothing.
     pub fn new(memory: &'a mut [u8]) -> Feed<'a>
-        ensures { IsBegun memory.old result }
+        ensures begins { IsBegun memory.old result }
+        ensures reads { HasRead memory.old [] [] result }
     {
         Feed {
             simulator: Simulator::new(memory),
@@ -49,8 +50,8 @@ impl<'a> Feed<'a> {
 
     // Takes the line that is held, and appends its print. Breaks where the run stops.
     fn answer(&mut self, print: &mut Vec<u8>) -> Result<ControlFlow<()>, AllocError>
-        ensures { IfOk result (λ flow.
-            Answers self.old print.old.items flow self.new print.new.items) }
+        ensures { IfOk result
+            (λ flow. AnswersHeld self.old print.old.items flow self.new print.new.items) }
     {
         let mut columns = [0; PRINT_BYTES];
         let answer = self.simulator.take(self.partial.line(), &mut columns);
@@ -59,12 +60,15 @@ impl<'a> Feed<'a> {
         Ok(flow_after(answer))
     }
 
-    // Takes the lines that end in a piece, appends their prints, and holds the last one where it has
-    // not ended. Breaks where the run stops.
+    // Takes the lines that end in a piece, appends their prints, and holds the last one where it has not
+    // ended. Breaks where the run stops.
     pub fn feed(&mut self, piece: &[u8], print: &mut Vec<u8>) -> Result<ControlFlow<()>, AllocError>
-        ensures { IfOk result (λ flow. MatchControlFlow flow
-            (λ _. GoesOn self.old piece.now print.old.items self.new [] print.new.items)
-            (λ _. Stops self.old piece.now print.old.items self.new print.new.items)) }
+        ensures takes { IfOk result (λ flow. MatchControlFlow flow
+            (λ _. ReadsOn self.old piece.now print.old.items self.new [] print.new.items)
+            (λ _. StopsRun self.old piece.now print.old.items self.new print.new.items)) }
+        ensures reads { IfOk result (λ flow. MatchControlFlow flow
+            (λ _. PrintsPiece self.old piece.now print.old.items self.new print.new.items)
+            (λ _. PrintsToStop self.old piece.now print.old.items self.new print.new.items)) }
     {
         let mut rest = piece;
         while let Some(count) = self.partial.fill(rest) {
@@ -78,11 +82,31 @@ impl<'a> Feed<'a> {
 
     // Takes the last line, where it has no line feed.
     pub fn finish(&mut self, print: &mut Vec<u8>) -> Result<(), AllocError>
-        ensures { OnOk result (Ends self.old print.old.items self.new print.new.items) }
+        ensures takes { OnOk result (Ends self.old print.old.items self.new print.new.items) }
+        ensures reads { OnOk result
+            (PrintsToEnd self.old print.old.items self.new print.new.items) }
     {
         if !self.partial.line().is_empty() {
             self.answer(print)?;
         }
         Ok(())
+    }
+
+    // Takes the lines of the last piece, with the last line where it has no line feed.
+    pub fn feed_last(&mut self, piece: &[u8], print: &mut Vec<u8>) -> Result<(), AllocError>
+        ensures { OnOk result
+            (PrintsLast self.old piece.now print.old.items self.new print.new.items) }
+    {
+        match self.feed(piece, print)? {
+            ControlFlow::Continue(()) => self.finish(print),
+            ControlFlow::Break(()) => Ok(()),
+        }
+    }
+
+    // The run, once nothing more is to be read.
+    pub fn into_simulator(self) -> Simulator<'a>
+        ensures { result ≡ self.entry.simulator }
+    {
+        self.simulator
     }
 }

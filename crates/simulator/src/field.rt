@@ -1,6 +1,6 @@
 // A field of a request line: a whole number, right-justified, with spaces before it.
 ghost use Rattle.std.specs.Prelude.{◌≡◌, ◌^◌, ◌≤◌, length};
-ghost use Rattle.simulator.specs.Field.{field, after_byte, number_of, Below};
+ghost use Rattle.simulator.specs.Field.{field, after_byte, told_number, Below};
 
 // What the bytes of a field have told so far.
 #[derive(Clone, Copy)]
@@ -31,7 +31,7 @@ impl Told {
 
     // The number, where one was told.
     fn number(self) -> Option<u64>
-        ensures { result ≡ number_of self }
+        ensures { result ≡ told_number self }
     {
         match self {
             Told::Number(number) => Some(number),

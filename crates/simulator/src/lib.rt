@@ -16,7 +16,7 @@ mod stage;
 
 pub use answer::{Answer, Columns, Denial, columns_of};
 pub use feed::Feed;
-pub use file::print_file;
+pub use file::{FileRun, print_file};
 pub use partial::Partial;
 pub use print::PRINT_BYTES;
 pub use request::Item;

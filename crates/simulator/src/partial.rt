@@ -1,5 +1,6 @@
 // A line that is being read: what has to be held of it.
 ghost use Rattle.std.specs.Prelude.{◌≤◌};
+ghost use Rattle.simulator.specs.declared.partial.TheConstants.{HELD_BYTES};
 
 use crate::line::line_end;
 
@@ -11,7 +12,7 @@ const HELD_BYTES: usize = 22;
 pub struct Partial {
     bytes: [u8; HELD_BYTES],
     count: usize,
-    ghost fits: { count ≤ 22 },
+    ghost fits: { count ≤ HELD_BYTES },
 }
 
 impl Partial {
@@ -30,7 +31,7 @@ impl Partial {
 
     // Holds what there is room for of some bytes.
     fn hold(&mut self, input: &[u8])
-        ensures { held self.new ≡ take 22 (held self.old ++ input.now) }
+        ensures { held self.new ≡ take HELD_BYTES (held self.old ++ input.now) }
     {
         let more = input.len().min(HELD_BYTES - self.count);
         self.bytes[self.count..self.count + more].copy_from_slice(&input[..more]);
@@ -41,7 +42,7 @@ impl Partial {
     pub fn fill(&mut self, input: &[u8]) -> Option<usize>
         ensures end { result ≡ line_end input.now }
         ensures within { IfSome result (λ n. (1 ≤ n) × (n ≤ length input.now)) }
-        ensures holds { held self.new ≡ take 22 (held self.old ++ first_bytes input.now) }
+        ensures holds { held self.new ≡ take HELD_BYTES (held self.old ++ first_bytes input.now) }
     {
         let end = line_end(input);
         match end {

@@ -1,6 +1,6 @@
 // The print line: the line's number, the series, the code and a last number, right-justified, and a line feed.
 ghost use Rattle.std.specs.Prelude.{◌≡◌, length};
-ghost use Rattle.simulator.specs.Print.{column, before, justified, printed};
+ghost use Rattle.simulator.specs.Print.{column, columns_before, justified, printed};
 
 use crate::answer::Columns;
 
@@ -21,7 +21,7 @@ fn column(rest: u64) -> u8
 // The columns before a number's last digit: the digits of the rest at the right end, spaces before them. One column a call, since
 // an invariant has no name for what a loop over `iter_mut().rev()` has written.
 fn fill_before(columns: &mut [u8], rest: u64)
-    ensures { columns.new ≡ before (length columns.old) rest }
+    ensures { columns.new ≡ columns_before (length columns.old) rest }
 {
     if let Some((last, front)) = columns.split_last_mut() {
         *last = column(rest);

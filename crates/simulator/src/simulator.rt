@@ -3,10 +3,10 @@ ghost use Rattle.std.specs.Prelude.{◌≡◌, ℕ, min, List, []};
 ghost use Rattle.simulator.specs.Columns.{NumbersInColumns};
 ghost use Rattle.simulator.specs.Calls.{turn_in, turn_for, Extends};
 ghost use Rattle.simulator.specs.Devices.{meaning_of, make_of};
-ghost use Rattle.simulator.specs.Histories.{HasServed, RunServed};
+ghost use Rattle.simulator.specs.Histories.{HasServed, RunServed, IsReached, RunReached, Lengthens};
 ghost use Rattle.simulator.specs.Stages.{view, awaits_disk, memory_of};
 ghost use Rattle.simulator.specs.Steps.{step_of, done_on, requested, cut_off};
-ghost use Rattle.simulator.specs.Takes.{run_of, taken_by, numbered, ended_by, stage_bytes};
+ghost use Rattle.simulator.specs.Takes.{run_of, taken_by, by_number, ended_by, stage_bytes};
 ghost use Rattle.simulator.specs.declared.request.Command.TheVariants.{Give, Cut};
 
 use crate::answer::{Answer, Denial, columns_of};
@@ -40,6 +40,10 @@ fn asked_series(series: u64) -> u8
 
 // A request of a series at a reading.
 fn ask(server: &mut Server<Device<'_>, AnyKind>, fields: Fields) -> Result<Answer, Denial>
+    ensures extends { Lengthens
+        (IsReached server.old.kind server.old.state server.old.disk)
+        (turn_for Give fields result)
+        (IsReached server.new.kind server.new.state server.new.disk) }
     ensures serves { Extends
         (HasServed server.old.kind server.old.state server.old.disk)
         (turn_for Give fields result)
@@ -58,6 +62,10 @@ fn ask(server: &mut Server<Device<'_>, AnyKind>, fields: Fields) -> Result<Answe
 
 // A power cut with a tear and a new supply, and the fresh start after it.
 fn cut(server: &mut Server<Device<'_>, AnyKind>, fields: Fields) -> Result<Answer, Denial>
+    ensures extends { Lengthens
+        (IsReached server.old.kind server.old.state server.old.disk)
+        (turn_for Cut fields result)
+        (IsReached server.new.kind server.new.state server.new.disk) }
     ensures serves { Extends
         (HasServed server.old.kind server.old.state server.old.disk)
         (turn_for Cut fields result)
@@ -91,7 +99,13 @@ impl<'a> Simulator<'a> {
     pub fn take(&mut self, line: &[u8], print: &mut [u8]) -> Result<Answer, Denial>
         ensures takes { record { answer = result; run = run_of self.new; print = print.new }
             ≡ taken_by (run_of self.old) line.now print.old }
-        ensures serves { Extends (RunServed self.old.stage) (turn_in line.now result)
+        ensures extends { Lengthens
+            (RunReached self.old.stage)
+            (turn_in line.now result)
+            (RunReached self.new.stage) }
+        ensures serves { Extends
+            (RunServed self.old.stage)
+            (turn_in line.now result)
             (RunServed self.new.stage) }
         ensures memory { stage_bytes self.new.stage ≡ memory_of (view self.new.stage) }
         ensures numbers { NumbersInColumns }
@@ -108,10 +122,16 @@ impl<'a> Simulator<'a> {
     // What a line that is counted does, and the end of the run where it brings that.
     fn answer(&mut self, line: &[u8]) -> Result<Answer, Denial>
         ensures count { self.new.taken ≡ self.old.taken }
-        ensures serves { Extends (RunServed self.old.stage) (turn_in line.now result)
+        ensures extends { Lengthens
+            (RunReached self.old.stage)
+            (turn_in line.now result)
+            (RunReached self.new.stage) }
+        ensures serves { Extends
+            (RunServed self.old.stage)
+            (turn_in line.now result)
             (RunServed self.new.stage) }
         ensures answers { record { answer = result; after = view self.new.stage }
-            ≡ ended_by (numbered self.old.taken (view self.old.stage) line.now) }
+            ≡ ended_by (by_number self.old.taken (view self.old.stage) line.now) }
     {
         let answer = if self.taken > LAST_LINE {
             Err(Denial::TooMany)
@@ -126,7 +146,13 @@ impl<'a> Simulator<'a> {
     // by value takes 14% longer a line.
     fn step(&mut self, line: &[u8]) -> Result<Answer, Denial>
         ensures count { self.new.taken ≡ self.old.taken }
-        ensures serves { Extends (RunServed self.old.stage) (turn_in line.now result)
+        ensures extends { Lengthens
+            (RunReached self.old.stage)
+            (turn_in line.now result)
+            (RunReached self.new.stage) }
+        ensures serves { Extends
+            (RunServed self.old.stage)
+            (turn_in line.now result)
             (RunServed self.new.stage) }
         ensures steps { record { answer = result; after = view self.new.stage }
             ≡ step_of (view self.old.stage) line.now }

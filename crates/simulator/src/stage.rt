@@ -3,7 +3,7 @@ ghost use Rattle.std.specs.Prelude.{◌≡◌, None, ok_or};
 ghost use Rattle.simulator.specs.Calls.{Extends};
 ghost use Rattle.simulator.specs.Takes.{finished};
 ghost use Rattle.simulator.specs.Devices.{make_for, room};
-ghost use Rattle.simulator.specs.Histories.{RunServed};
+ghost use Rattle.simulator.specs.Histories.{RunServed, RunReached, Lengthens};
 ghost use Rattle.simulator.specs.Stages.{view, started, leased, closed};
 ghost use Rattle.simulator.specs.declared.answer.Denial.TheVariants.{NoDevice};
 ghost use Rattle.simulator.specs.declared.stage.Left.TheVariants.{Nothing};
@@ -63,6 +63,7 @@ impl Stage<'_> {
     // The lease is known, and the box is to come.
     pub(crate) fn set_lease(&mut self, lease: Lease)
         ensures leases { view self.new ≡ leased lease (view self.old) }
+        ensures extends { Lengthens (RunReached self.old) None (RunReached self.new) }
         ensures serves { Extends (RunServed self.old) None (RunServed self.new) }
     {
         *self = match mem::take(self) {
@@ -74,6 +75,7 @@ impl Stage<'_> {
     // The server is put together.
     pub(crate) fn run(&mut self, kind: AnyKind)
         ensures starts { view self.new ≡ started kind (view self.old) }
+        ensures extends { Lengthens (RunReached self.old) None (RunReached self.new) }
         ensures serves { Extends (RunServed self.old) None (RunServed self.new) }
     {
         *self = match mem::take(self) {
@@ -88,6 +90,7 @@ impl Stage<'_> {
     // Ends the run after a denial that does so.
     pub(crate) fn finish(&mut self, answer: Result<Answer, Denial>)
         ensures ends { view self.new ≡ finished answer (view self.old) }
+        ensures extends { Lengthens (RunReached self.old) None (RunReached self.new) }
         ensures serves { Extends (RunServed self.old) None (RunServed self.new) }
     {
         if answer.is_err_and(|denial| denial.ends_run()) {
@@ -98,6 +101,7 @@ impl Stage<'_> {
     // The run ends.
     fn end(&mut self)
         ensures ends { view self.new ≡ closed (view self.old) }
+        ensures extends { Lengthens (RunReached self.old) None (RunReached self.new) }
         ensures serves { Extends (RunServed self.old) None (RunServed self.new) }
     {
         *self = Stage::Ended(match mem::take(self) {

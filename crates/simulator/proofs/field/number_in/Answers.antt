@@ -2,7 +2,7 @@
 use Rattle.std.proofs.Common.{◌≡◌, ℕ, ◌+◌, ◌^◌, ◌≤◌, List, [], ◌∷◌, length, length-append, refl, ap, sym, ◌∙◌, rules, arith, Iter, Bor}
 use Rattle.std.specs.Iterator.{Yields}
 use Rattle.std.proofs.lemmas.Fn.{serves_by, fold_over, slice_gives, fronts}
-use Rattle.simulator.specs.Field.{after_byte, number_of, Below}
+use Rattle.simulator.specs.Field.{after_byte, told_number, Below}
 use Rattle.simulator.specs.declared.field.Told.{Told}
 use Rattle.simulator.specs.declared.field.Told.TheVariants.{Spaces}
 use Rattle.simulator.proofs.Powers.{below_more, below_all}
@@ -33,4 +33,4 @@ pub returns : goal.returns
 unfolding after_bytes
 returns c =
     let all : c.fold.result ≡ after_bytes Spaces c.iter.result.rest.now = fold_over fronts (λ y. y.now) _ (λ ys told. told ≡ after_bytes Spaces ys) _ (λ ys a x b f j k. let is : b ≡ after_byte a x.now = search rules in (is ∙ ap (λ (t : Told). after_byte t x.now) j ∙ sym (after_push Spaces ys x.now), search rules)) _ _ Spaces c.fold.result (slice_gives c.iter.result) refl c.fold.ensures.ran in
-    c.number.ensures ∙ ap number_of (all ∙ ap (after_bytes Spaces) c.iter.ensures.rest) ∙ sym (told_is Spaces c.args.bytes.now)
+    c.number.ensures ∙ ap told_number (all ∙ ap (after_bytes Spaces) c.iter.ensures.rest) ∙ sym (told_is Spaces c.args.bytes.now)

@@ -1,21 +1,30 @@
--- A file is one piece, and its end.
+-- A file is the last piece of a run that begins.
+use Rattle.std.proofs.Common.{◌++◌, ◌∙◌, List, [], ℕ, ap}
 use Rattle.std.proofs.lemmas.Result.{on_ok_weaker}
-use Rattle.simulator.proofs.Feeds.{file_ends, file_stops}
+use Rattle.simulator.proofs.Bytes.{of_stage}
 use Rattle.simulator.proofs.file.print_file.Goals as goal
 
-pub returns-in-Continue : goal.returns-in-Continue
-returns-in-Continue c =
-    let read = rw c.in-Continue.is at c.in_ok-feed.ensures in
-    let all =
-    file_ends c.args.memory.now c.args.file.now c.args.print.now.items c.new-feed.result c.new-feed.ensures c.finish.new.self read in
-    record {
-      prints = on_ok_weaker c.finish.result (λ ends. (all ends).0) c.finish.ensures;
-      serves = on_ok_weaker c.finish.result (λ ends. (all ends).1) c.finish.ensures;
-    }
+pub returns-clause-prints : goal.returns-clause-prints
+returns-clause-prints c =
+    on_ok_weaker c.feed_last-printed.result
+    (λ last.
+    let all = last c.args.memory.now [] [] c.new-feed.ensures.reads in
+    all.1 ∙ ap (λ (xs : List ℕ). c.args.print.now.items ++ xs) all.2.prints)
+    c.feed_last-printed.ensures
 
-pub returns-in-Break : goal.returns-in-Break
-returns-in-Break c =
-    let read = rw c.in-Break.is at c.in_ok-feed.ensures in
-    let all =
-    file_stops c.args.memory.now c.args.file.now c.args.print.now.items c.new-feed.result c.new-feed.ensures read in
-    record { prints = all.0; serves = all.1 }
+pub returns-clause-comes_to : goal.returns-clause-comes_to
+returns-clause-comes_to c =
+    rw c.into_simulator.ensures
+    (on_ok_weaker c.feed_last-printed.result
+    (λ last. (last c.args.memory.now [] [] c.new-feed.ensures.reads).2.run)
+    c.feed_last-printed.ensures)
+
+pub returns-clause-serves : goal.returns-clause-serves
+returns-clause-serves c =
+    rw c.into_simulator.ensures
+    (on_ok_weaker c.feed_last-printed.result
+    (λ last. (last c.args.memory.now [] [] c.new-feed.ensures.reads).2.served)
+    c.feed_last-printed.ensures)
+
+pub returns-clause-memory : goal.returns-clause-memory
+returns-clause-memory c = of_stage c.into_simulator.result.stage
