@@ -16,7 +16,7 @@ use Rattle.ring.specs.Ring.{recover}
 use Rattle.server.specs.Rules.{format, woken, top_told}
 use Rattle.server.specs.declared.fault.ServerFault.{ServerFault}
 use Rattle.server.specs.declared.state.State.{State}
-use Rattle.simulator.specs.Devices.{meaning_of, make_of, make_for, room, after_cut}
+use Rattle.simulator.specs.Devices.{meaning_of, make_of, make_for, room, meaning_after_cut}
 use Rattle.simulator.specs.Kinds.{numbering_of}
 use Rattle.simulator.specs.Request.{command_in, fields_in}
 use Rattle.simulator.specs.Requests.{LeftBy, given_by}
@@ -106,7 +106,7 @@ woken_on make kind spare m =
 
 -- a cut with a tear and a new supply: the server wakes on what the disk then is
 abbrev pub cut_off : Make → AnyKind → Meaning → List ℕ → Fields → Done
-cut_off make kind m spare f = woken_on make kind spare (after_cut make f.a f.b m)
+cut_off make kind m spare f = woken_on make kind spare (meaning_after_cut make f.a f.b m)
 
 -- a request's answer, with the stage after it
 abbrev pub request_done : Make → AnyKind → List ℕ → ℕ → LeftBy Identifier → Done

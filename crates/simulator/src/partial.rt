@@ -7,7 +7,8 @@ use crate::line::line_end;
 // A request line has 21 bytes. One byte more shows that a line is too long, and what follows tells nothing.
 const HELD_BYTES: usize = 22;
 
-// The first bytes of a line that has not ended. An array and a count, since this type is `Copy` and an `ArrayVec` is not.
+// The first bytes of a line that has not ended. An array and a count, since this type is `Copy` and an `ArrayVec` is
+// not.
 #[derive(Clone, Copy)]
 pub struct Partial {
     bytes: [u8; HELD_BYTES],

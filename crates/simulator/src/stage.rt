@@ -33,8 +33,8 @@ pub enum Left<'a> {
     },
 }
 
-// The stages of a run. The spare is the memory past the disk's; it lies beside a disk or beside a server that has it, so the two
-// are no struct of their own.
+// The stages of a run. The spare is the memory past the disk's; it lies beside a disk or beside a server that has it,
+// so the two are no struct of their own.
 #[derive(Drop)]
 pub enum Stage<'a> {
     // The line for the device is to come.
