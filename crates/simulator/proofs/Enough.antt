@@ -1,5 +1,6 @@
 -- What is held of a line, and that it tells as much as the line.
-use Rattle.std.proofs.Common.{◌≡◌, ℕ, ◌+◌, ◌-◌, ◌≤◌, min, eqb, leb, List, [], ◌∷◌, ◌++◌, length, get_or, take, drop, Some, None, Option, sym, refl, ap, ◌∙◌, append_assoc, arith}
+use Rattle.std.proofs.Common.{◌≡◌, ℕ, ◌+◌, ◌-◌, ◌≤◌, min, eqb, leb, List, [], ◌∷◌, ◌++◌, length}
+use Rattle.std.proofs.Common.{get_or, take, drop, Some, None, Option, sym, refl, ap, ◌∙◌, append_assoc, arith}
 use lib.Seq.{take-append-add}
 use Rattle.std.specs.List.{between}
 use Rattle.std.proofs.lemmas.List.{take_min, length-take, length-take-le, length-append, take_at, take-take, get_or-take}

@@ -15,7 +15,8 @@ use Rattle.ring.specs.Search.{Ended, refusal}
 use Rattle.ring.specs.declared.fault.RingFault.{RingFault}
 use Rattle.ring.specs.declared.ring.Ring.{Ring}
 use Rattle.ring.specs.declared.token.Reserved.{Reserved}
-use Rattle.server.specs.Rules.{with_ring, one, Range, Wish, declines, draws, decide, end_at, next_at, drawn, identified, tries_for, tries_by, tries, Answered, Reserving, Does, Gave}
+use Rattle.server.specs.Rules.{with_ring, one, Range, Wish, declines, draws, decide, end_at, next_at}
+use Rattle.server.specs.Rules.{drawn, identified, tries_for, tries_by, tries, Answered, Reserving, Does, Gave}
 use Rattle.server.specs.declared.fault.ServerFault.{ServerFault}
 use Rattle.server.specs.declared.state.State.{State}
 use Rattle.server.specs.declared.state.State.TheVariants.{Up as Awake, Down}

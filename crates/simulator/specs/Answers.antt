@@ -43,7 +43,7 @@ denial_text (Malformed item) = codes "the request line is wrong: " ++ item_text 
 denial_text Ended = codes "the run has ended"
 denial_text TooMany = codes "the line's number is above 999999"
 denial_text Size = codes "a disk has 10 to 2048 sectors, and the memory must have room for them"
-denial_text NoDevice = codes "device 0 is the faithful disk and device 1 the torn one; there is no other"
+denial_text NoDevice = codes "there is no device but 0, the faithful disk, and 1, the torn one"
 denial_text (Setting fault) = setting_fault_text fault
 denial_text (NotGiven series fault) =
     codes "no identifier of series "

@@ -77,4 +77,6 @@ StopsRun f piece print f' print' =
 abbrev pub Ends : Feed → List ℕ → Feed → List ℕ → Type 0
 Ends f print f' print' =
     (line : List ℕ) → HoldsStart f.partial line →
-    TakesRows f.simulator print (rows_of (lines_from [] line) (run_of f.simulator)) f'.simulator print'
+    TakesRows f.simulator print
+    (rows_of (lines_from [] line) (run_of f.simulator))
+    f'.simulator print'

@@ -35,7 +35,7 @@ column_of LineFeed = 21
 abbrev pub item_text : Item → List ℕ
 item_text Letter = codes "the letter in column 1 is none that may come here"
 item_text FieldA = codes "field A is no number at the right end of columns 2 to 6"
-item_text FieldB = codes "field B is no number at the right end of columns 7 to 20, or not 0 where it must be"
+item_text FieldB = codes "field B is no number at the right end of columns 7 to 20, or must be 0"
 item_text LineFeed = codes "the line does not end with a line feed in column 21"
 
 -- field B must be 0 after S and T

@@ -111,7 +111,10 @@ cut_off make kind m spare f = woken_on make kind spare (meaning_after_cut make f
 -- a request's answer, with the stage after it
 abbrev pub request_done : Make → AnyKind → List ℕ → ℕ → LeftBy Identifier → Done
 request_done make kind spare series left =
-    record { answer = give_answer series left.answer; after = runs make kind left.state left.disk spare }
+    record {
+      answer = give_answer series left.answer;
+      after = runs make kind left.state left.disk spare;
+    }
 
 -- a request at a reading; a series above 255 is asked for as 255
 abbrev pub requested : Make → AnyKind → State → Meaning → List ℕ → Fields → Done

@@ -128,7 +128,7 @@ impl fmt::Display for Denial {
                 "a disk has 10 to 2048 sectors, and the memory must have room for them",
             ),
             Denial::NoDevice => f.write_str(
-                "device 0 is the faithful disk and device 1 the torn one; there is no other",
+                "there is no device but 0, the faithful disk, and 1, the torn one",
             ),
             Denial::Setting(fault) => write!(f, "{fault}"),
             Denial::NotGiven { series, fault } => {

@@ -56,9 +56,7 @@ impl fmt::Display for Item {
         f.write_str(match self {
             Item::Letter => "the letter in column 1 is none that may come here",
             Item::A => "field A is no number at the right end of columns 2 to 6",
-            Item::B => {
-                "field B is no number at the right end of columns 7 to 20, or not 0 where it must be"
-            }
+            Item::B => "field B is no number at the right end of columns 7 to 20, or must be 0",
             Item::LineFeed => "the line does not end with a line feed in column 21",
         })
     }

@@ -1,5 +1,6 @@
 -- The place of the first line feed, and one more.
-use Rattle.std.proofs.Common.{◌≡◌, ℕ, suc, ◌+◌, Bool, true, false, cond, List, [], ◌∷◌, Some, None, Option, MatchOption, IsSomeAnd, option_map, eqb, rules, refl, ap, ◌∙◌, arith}
+use Rattle.std.proofs.Common.{◌≡◌, ℕ, suc, ◌+◌, Bool, true, false, cond, List, [], ◌∷◌, Some}
+use Rattle.std.proofs.Common.{None, Option, MatchOption, IsSomeAnd, option_map, eqb, rules, refl, ap, ◌∙◌, arith}
 use borrow.Author.Tests.{tests}
 use Rattle.std.specs.List.{position_from}
 use Rattle.std.proofs.lemmas.Iterator.{YieldsList-from_slice}
