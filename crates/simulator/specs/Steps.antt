@@ -20,7 +20,7 @@ use Rattle.simulator.specs.Devices.{meaning_of, make_of, make_for, room, meaning
 use Rattle.simulator.specs.Kinds.{numbering_of}
 use Rattle.simulator.specs.Request.{command_in, fields_in}
 use Rattle.simulator.specs.Requests.{LeftBy, given_by}
-use Rattle.simulator.specs.Stages.{View, awaits_disk, awaits_kind, awaits_box, runs, has_ended, started, leased}
+use Rattle.simulator.specs.Stages.{View, awaits_disk, awaits_kind, awaits_box, runs, has_ended, view_with_kind, view_with_lease}
 use Rattle.simulator.specs.declared.answer.Answer.{Answer}
 use Rattle.simulator.specs.declared.answer.Answer.TheVariants.{Set, Given, Woken}
 use Rattle.simulator.specs.declared.answer.Denial.{Denial}
@@ -69,17 +69,17 @@ opened memory f =
 -- the serial kind with a block size
 abbrev pub with_serial : View → Result SerialKind SettingFault → Done
 with_serial v (Err fault) = denial_done (Setting fault) v
-with_serial v (Ok k) = set_up (started (kind.Serial k) v)
+with_serial v (Ok k) = set_up (view_with_kind (kind.Serial k) v)
 
 -- the lease of the time kind
 abbrev pub with_lease : View → Result Lease SettingFault → Done
 with_lease v (Err fault) = denial_done (Setting fault) v
-with_lease v (Ok lease) = set_up (leased lease v)
+with_lease v (Ok lease) = set_up (view_with_lease lease v)
 
 -- the time kind, or the fault of its box
 abbrev pub with_time : View → Result TimeKind SettingFault → Done
 with_time v (Err fault) = denial_done (Setting fault) v
-with_time v (Ok k) = set_up (started (kind.Time k) v)
+with_time v (Ok k) = set_up (view_with_kind (kind.Time k) v)
 
 -- the correction byte is tested first, then the box
 abbrev pub with_correction : View → Lease → ℕ → Result Correction SettingFault → Done

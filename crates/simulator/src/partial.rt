@@ -18,11 +18,11 @@ pub struct Partial {
 
 impl Partial {
     ghost use Rattle.std.specs.Prelude.{◌≡◌, ◌≤◌, [], ◌++◌, length, take, IfSome};
-    ghost use Rattle.simulator.specs.Lines.{line_end, held, first_bytes, TellsAsMuch};
+    ghost use Rattle.simulator.specs.Lines.{line_end, held_bytes, first_bytes, TellsAsMuch};
 
     // Nothing of a line.
     pub fn new() -> Partial
-        ensures { held result ≡ [] }
+        ensures { held_bytes result ≡ [] }
     {
         Partial {
             bytes: [0; HELD_BYTES],
@@ -32,7 +32,7 @@ impl Partial {
 
     // Holds what there is room for of some bytes.
     fn hold(&mut self, input: &[u8])
-        ensures { held self.new ≡ take HELD_BYTES (held self.old ++ input.now) }
+        ensures { held_bytes self.new ≡ take HELD_BYTES (held_bytes self.old ++ input.now) }
     {
         let more = input.len().min(HELD_BYTES - self.count);
         self.bytes[self.count..self.count + more].copy_from_slice(&input[..more]);
@@ -43,7 +43,8 @@ impl Partial {
     pub fn fill(&mut self, input: &[u8]) -> Option<usize>
         ensures end { result ≡ line_end input.now }
         ensures within { IfSome result (λ n. (1 ≤ n) × (n ≤ length input.now)) }
-        ensures holds { held self.new ≡ take HELD_BYTES (held self.old ++ first_bytes input.now) }
+        ensures holds { held_bytes self.new
+            ≡ take HELD_BYTES (held_bytes self.old ++ first_bytes input.now) }
     {
         let end = line_end(input);
         match end {
@@ -55,7 +56,7 @@ impl Partial {
 
     // The bytes that are held. They tell as much as the whole line does.
     pub fn line(&self) -> &[u8]
-        ensures bytes { result.now ≡ held self.now }
+        ensures bytes { result.now ≡ held_bytes self.now }
         ensures enough { TellsAsMuch }
     {
         &self.bytes[..self.count]

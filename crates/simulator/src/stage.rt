@@ -1,10 +1,10 @@
 // Where a run stands, by the lines that were taken.
 ghost use Rattle.std.specs.Prelude.{◌≡◌, None, ok_or};
 ghost use Rattle.simulator.specs.Calls.{Extends};
-ghost use Rattle.simulator.specs.Takes.{finished};
+ghost use Rattle.simulator.specs.Takes.{view_after};
 ghost use Rattle.simulator.specs.Devices.{make_for, room};
 ghost use Rattle.simulator.specs.Histories.{RunServed};
-ghost use Rattle.simulator.specs.Stages.{view, started, leased, closed};
+ghost use Rattle.simulator.specs.Stages.{view, view_with_kind, view_with_lease, view_at_end};
 ghost use Rattle.simulator.specs.declared.answer.Denial.TheVariants.{NoDevice};
 ghost use Rattle.simulator.specs.declared.stage.Left.TheVariants.{Nothing};
 ghost use Rattle.simulator.specs.declared.stage.Stage.TheVariants.{Ended};
@@ -62,7 +62,7 @@ pub enum Stage<'a> {
 impl Stage<'_> {
     // The lease is known, and the box is to come.
     pub(crate) fn set_lease(&mut self, lease: Lease)
-        ensures leases { view self.new ≡ leased lease (view self.old) }
+        ensures leases { view self.new ≡ view_with_lease lease (view self.old) }
         ensures serves { Extends (RunServed self.old) None (RunServed self.new) }
     {
         *self = match mem::take(self) {
@@ -73,7 +73,7 @@ impl Stage<'_> {
 
     // The server is put together.
     pub(crate) fn run(&mut self, kind: AnyKind)
-        ensures starts { view self.new ≡ started kind (view self.old) }
+        ensures starts { view self.new ≡ view_with_kind kind (view self.old) }
         ensures serves { Extends (RunServed self.old) None (RunServed self.new) }
     {
         *self = match mem::take(self) {
@@ -87,7 +87,7 @@ impl Stage<'_> {
 
     // Ends the run after a denial that does so.
     pub(crate) fn finish(&mut self, answer: Result<Answer, Denial>)
-        ensures ends { view self.new ≡ finished answer (view self.old) }
+        ensures ends { view self.new ≡ view_after answer (view self.old) }
         ensures serves { Extends (RunServed self.old) None (RunServed self.new) }
     {
         if answer.is_err_and(|denial| denial.ends_run()) {
@@ -97,7 +97,7 @@ impl Stage<'_> {
 
     // The run ends.
     fn end(&mut self)
-        ensures ends { view self.new ≡ closed (view self.old) }
+        ensures ends { view self.new ≡ view_at_end (view self.old) }
         ensures serves { Extends (RunServed self.old) None (RunServed self.new) }
     {
         *self = Stage::Ended(match mem::take(self) {
