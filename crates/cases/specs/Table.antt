@@ -46,7 +46,8 @@ abbrev pub refusal_of : Wish → ℕ
 refusal_of (declines fault) = (particulars fault).number
 refusal_of (draws s first n claimed) = 0
 
--- a call of a server, and what it answered: a request of a series at a reading, or a cut with its tear and its new supply
+-- a call of a server, and what it answered: a request of a series at a reading, or a cut with its
+-- tear and its new supply
 abbrev pub asked : ℕ → ℕ → Result Identifier ServerFault → Turn
 asked s reading answer =
     record { call = Give s (record { 0 = reading }); answer = Some (OfGive answer) }
@@ -54,10 +55,11 @@ asked s reading answer =
 abbrev pub cut_off : ℕ → ℕ → Result Sequence ServerFault → Turn
 cut_off tear supply answer = record { call = Cut tear supply; answer = Some (OfCut answer) }
 
--- what a case says: a memory, the lines of a request file and the lines of its print; the same of a run that has begun; a
--- memory, the lines of a request file, and the calls that are made for them; bytes and their checksum; a byte and its
--- correction; a correction byte, a raw reading and its floor; the same, and the number that a request is denied with; box,
--- millisecond, series, step and their identifier
+-- what a case says: a memory, the lines of a request file and the lines of its print; the same of a
+-- run that has begun; a memory, the lines of a request file, and the calls that are made for them;
+-- bytes and their checksum; a byte and its correction; a correction byte, a raw reading and its
+-- floor; the same, and the number that a request is denied with; box, millisecond, series, step and
+-- their identifier
 pub data Case : Type 0 where
   prints : List ℕ → List (List ℕ) → List (List ℕ) → Case
   goes_on : Run → List (List ℕ) → List (List ℕ) → Case

@@ -11,9 +11,10 @@ fn rows() -> usize
     15
 }
 
-// How many cases the table has, each of which holds: three request files and their whole prints, the calls that are made for the
-// lines of one, checksums, corrections, floors, an identifier, and the last serial identifier. A file's print and its calls are
-// computed by the definitions that the simulator has for its contracts.
+// How many cases the table has, each of which holds: three request files and their whole prints, the
+// calls that are made for the lines of one, checksums, corrections, floors, an identifier, and the last
+// serial identifier. A file's print and its calls are computed by the definitions that the simulator
+// has for its contracts.
 pub fn worked_cases() -> usize
     ensures count { result ≡ length table }
     ensures hold { EveryCaseHolds }

@@ -1,5 +1,5 @@
 // The simulator's call on worked cases, and on lines that it denies.
-use simulator::{Denial, Simulator};
+use simulator::{Denial, Simulator, print_file};
 
 // Takes a line, and tells the last number of its print: the 20 columns before the line feed.
 fn last_number(simulator: &mut Simulator, line: &[u8]) -> u64 {
@@ -27,6 +27,25 @@ fn after_seven(device: &[u8]) -> (u64, u64) {
 fn a_write_that_no_flush_follows(rt: HostRuntime) {
     assert_eq!(rt; after_seven(b"D    0            10\n"), (2, 7));
     assert_eq!(rt; after_seven(b"D    1            10\n"), (1, 4));
+}
+
+// A whole file, the last line of which has no line feed and ends the run.
+#[test]
+fn a_whole_file(rt: HostRuntime) {
+    let mut memory = [7; 400];
+    let mut print = Vec::new(rt.alloc());
+    let file = b"D    1            10\nS    3             0\nG    2             0\nG";
+    assert_eq!(rt; print_file(&mut memory, file, &mut print), Ok(()));
+    let lines = [
+        "     1   0  0                   0\n",
+        "     2   0  0                   0\n",
+        "     3   2  0                   1\n",
+        "     4   0  2                   2\n",
+    ];
+    assert_eq!(rt; print.len(), 4 * 34);
+    for (printed, line) in print.chunks(34).zip(lines) {
+        assert_eq!(rt; printed, line.as_bytes());
+    }
 }
 
 // The bytes after the 34th stay, and so does a print line that is too short.

@@ -18,7 +18,7 @@ pub use fault::{Cause, DiskFault, Operation};
 pub use hold::HoldBack;
 pub use memory::MemoryDisk;
 pub use sectors::Sectors;
-pub use size::{BadSize, LEAST_SECTORS, MOST_SECTORS, is_right_size};
+pub use size::{BadSize, LEAST_SECTORS, MOST_SECTORS, is_right_size, limits};
 pub use torn::{Held, LatestWrite, TornDisk};
 
 #[cfg(test)]

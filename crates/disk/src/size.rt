@@ -14,6 +14,11 @@ pub const LEAST_SECTORS: usize = 10;
 
 pub const MOST_SECTORS: usize = 2048;
 
+// What these numbers are.
+pub fn limits()
+    ensures { (LEAST_SECTORS ≡ 10) × (MOST_SECTORS ≡ 2048) }
+{}
+
 // Memory that was handed in for a disk and has not its size, or whose sector count is out of range: it is handed back.
 #[derive(Drop, Debug)]
 pub struct BadSize<'a> {

@@ -15,7 +15,7 @@ pub struct Held {
     old: [u8; SECTOR_BYTES],
 }
 
-// The latest write, until a flush or the next write.
+// The newest write: the next one takes its place, and a flush lets it go.
 pub type LatestWrite = Option<Held>;
 
 // The disk that holds it back.

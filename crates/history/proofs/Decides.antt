@@ -43,7 +43,9 @@ module _ (k : Numbering) (s end next n : ℕ) (reading : ClockReading) where
           (λ e. by_end has (leb-true (rank + n) (k.top.0 + 1) e))
           (λ e. high has (leb-false (rank + n) (k.top.0 + 1) e)))
 
-  pub claims : (lost : ℕ) → LawfulKind k → k.block ≤ lost → n ≡ 1 → next ≤ end → rank + n ≤ k.top.0 + 1 → end < rank + n → Claims k (FloorsZero k) lost end next (floor_of k reading) rank n block
+  pub claims :
+      (lost : ℕ) → LawfulKind k → k.block ≤ lost → n ≡ 1 → next ≤ end → rank + n ≤ k.top.0 + 1 → end < rank + n →
+      Claims k (FloorsZero k) lost end next (floor_of k reading) rank n block
   claims lost lawful wide single order up_to outside =
       record {
         above = omega (arith, lawful.least);

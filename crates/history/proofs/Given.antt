@@ -1,12 +1,12 @@
 -- Ranks that are given: what is told of the series then, that they rise, and which reservation covers one.
-use Rattle.std.proofs.Common.{◌≡◌, ℕ, zero, suc, ◌+◌, ◌-◌, ◌*◌, ◌<◌, ◌≤◌, min, List, ◌∷◌, length, refl, ap, ◌∙◌, ⊎_elim, add-mul, one-mul, zero-mul, arith}
+use Rattle.std.proofs.Common.{◌≡◌, ℕ, zero, suc, ◌+◌, ◌-◌, ◌*◌, ◌<◌, ◌≤◌, min, List, ◌∷◌, length, inl, inr, refl, ap, ◌∙◌, ⊎_elim, add-mul, one-mul, zero-mul, arith}
 use Rattle.std.proofs.ByRecursion.{All-weaker}
 use Rattle.std.proofs.lemmas.Bool.{cases_lt, cases_order, le-leb, lt-ltb, lt-leb}
 use Rattle.record.specs.declared.numbers.Identifier.{Identifier}
 use Rattle.record.specs.declared.numbers.Reading.{Reading}
 use Rattle.disk.specs.Meaning.{Meaning}
 use Rattle.kind.specs.Meaning.{Numbering, LawfulKind}
-use Rattle.history.specs.History.{Event, rank_of, after_last, labels, made_before}
+use Rattle.history.specs.History.{Event, rank_of, after_last, labels, IsCovered, made_before}
 use Rattle.history.specs.Promise.{Rising, HasFloor}
 use Rattle.server.specs.Rules.{Range}
 use Rattle.history.proofs.Series.{Series, Label, Counted, blocks}
@@ -14,7 +14,8 @@ use Rattle.history.proofs.Series.{Series, Label, Counted, blocks}
 -- the identifier of a rank from next on is the kind's for this rank and no other, and above all that were given before
 pub rises :
     (k : Numbering) → LawfulKind k → (start : Meaning) (past : List Event) (s end : ℕ) (reading : Reading) → s < 8 → HasFloor k reading →
-    Series k start past s end → rank_of k start s reading past ≤ k.top.0 → Rising k start s reading past (k.identifier s (record { 0 = rank_of k start s reading past }))
+    Series k start past s end → rank_of k start s reading past ≤ k.top.0 →
+    Rising k start s reading past (k.identifier s (record { 0 = rank_of k start s reading past }))
 rises k lawful start past s end reading below has inv up_to =
     let rank : ℕ = rank_of k start s reading past in
     record {
@@ -43,16 +44,19 @@ length-blocks k zero = refl
 length-blocks k (suc h) = omega (arith, length-blocks k h)
 
 pub record Covered (B rank : ℕ) (ranges : List Range) : Type 0 where
+  pub there : IsCovered rank ranges
   pub lo : ℕ
   pub below : lo < B
   pub sum : rank ≡ made_before rank ranges * B + lo
 
 covered_older : (B rank : ℕ) (r : Range) (older : List Range) → rank < r.first → Covered B rank older → Covered B rank (r ∷ older)
-covered_older B rank r older before c = record { lo = c.lo; below = c.below; sum = rw (lt-leb r.first rank before) c.sum }
+covered_older B rank r older before c = record { there = inr c.there; lo = c.lo; below = c.below; sum = rw (lt-leb r.first rank before) c.sum }
 
-covered_here : (B rank lo : ℕ) (r : Range) (older : List Range) → r.first ≤ rank → rank < r.end → lo < B → rank ≡ length older * B + lo → Covered B rank (r ∷ older)
+covered_here :
+    (B rank lo : ℕ) (r : Range) (older : List Range) → r.first ≤ rank → rank < r.end → lo < B → rank ≡ length older * B + lo →
+    Covered B rank (r ∷ older)
 covered_here B rank lo r older from inside small sum =
-    record { lo = lo; below = small; sum = rw (le-leb r.first rank from, lt-ltb rank r.end inside) sum }
+    record { there = inl (from, inside); lo = lo; below = small; sum = rw (le-leb r.first rank from, lt-ltb rank r.end inside) sum }
 
 covered : (k : Numbering) (rank h : ℕ) → rank < min (h * k.block) (k.top.0 + 1) → Covered k.block rank (blocks k h)
 covered k rank zero below = let z = zero-mul k.block in absurd (omega arith)

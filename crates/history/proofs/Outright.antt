@@ -64,7 +64,8 @@ stands_after w k first (cut tear supply answer after ∷ past) d goes =
     goes.2 ∙ ap (λ x. after_cut w x tear supply) (stands_after w k first past goes.0 goes.1)
 stands_after w k first (request s reading answer after ∷ past) d goes =
     (determined (memory_moves w) (λ d'. Unit {0}) stands (stood_after_try w) (stands_after_try w) goes.0 d _ tt goes.2).1
-    ∙ ap (λ x. fold (stood_after_try w) x (tried_by k (memory_disk w.before first) past x.supply (Some (one s reading)))) (stands_after w k first past goes.0 goes.1)
+    ∙ ap (λ x. fold (stood_after_try w) x (tried_by k (memory_disk w.before first) past x.supply (Some (one s reading))))
+    (stands_after w k first past goes.0 goes.1)
 
 -- how a disk over memory stands, by what it means and what it holds back
 abbrev stand : {H : Type 0} → Meaning → H → Stands H

@@ -6,7 +6,8 @@ use Rattle.kind.specs.Meaning.{Numbering}
 use Rattle.ring.specs.Operations.{Op, Went, performed, writes_in}
 use Rattle.ring.specs.Ring.{Step}
 use Rattle.ring.specs.declared.token.Blocks.{Blocks}
-use Rattle.history.specs.History.{Event, asks, told, after_of, latest, end_in, next, wish, wanted, asked, succeeded, too_little, dark_by, dark, writes_by, writes, reserved_by, made, cut_from, standing}
+use Rattle.history.specs.History.{Event, asks, told, after_of, latest, end_in, next, wish, wanted, asked, succeeded, too_little, dark_by, dark}
+use Rattle.history.specs.History.{writes_by, writes, reserved_by, made, cut_from, standing}
 use Rattle.server.specs.Rules.{format, Ask, Range, Wish, draws, end_at, next_at}
 use Rattle.server.specs.declared.state.Up.{Up}
 use Rattle.history.proofs.Invariant.{IsUp}
@@ -90,5 +91,7 @@ module _ {k : Numbering} {start : Meaning} {past : List Event} {event : Event} {
       }
 
 -- while the server is up, a call that wants no write is such a one
-pub asked_lit : {k : Numbering} {start : Meaning} {past : List Event} {u : Up} → IsUp k start past u → (ask : Ask) → asked k start ask past ≡ wanted k start ask past
+pub asked_lit :
+    {k : Numbering} {start : Meaning} {past : List Event} {u : Up} → IsUp k start past u → (ask : Ask) →
+    asked k start ask past ≡ wanted k start ask past
 asked_lit {k} {start} {past} inv ask = cond-false (dark k start past) [] (wanted k start ask past) inv.lit

@@ -81,7 +81,9 @@ module _ (k : Numbering) (start : Meaning) (past : List Event) (s : ℕ) (readin
   nothing : (MustReserve k start s reading past → ⊥) → asked k start ask past ≡ []
   nothing need_not = by_dark (dark k start past) refl
     where
-      by_numbers : (b : Bool) → numbers_suffice k start past ≡ b → (top_record k start past + 8 ≤ 2 ^ 62 - 1 → ⊥) → cond b (steps_of k start past s claimed) [] ≡ []
+      by_numbers :
+          (b : Bool) → numbers_suffice k start past ≡ b → (top_record k start past + 8 ≤ 2 ^ 62 - 1 → ⊥) →
+          cond b (steps_of k start past s claimed) [] ≡ []
       by_numbers true e short = absurd (short (leb-true (top_record k start past + 8) (2 ^ 62 - 1) e))
       by_numbers false e short = refl
 

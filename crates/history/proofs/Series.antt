@@ -1,5 +1,6 @@
 -- What holds of a series between calls: of its next rank, its end, what was given, and what may be lost.
-use Rattle.std.proofs.Common.{◌≡◌, ℕ, zero, suc, ◌+◌, ◌*◌, ◌<◌, ◌≤◌, min, max, true, false, eqb, List, [], ◌∷◌, Some, None, Result, refl, ap, add-mul, one-mul, zero-mul, arith}
+use Rattle.std.proofs.Common.{◌≡◌, ℕ, zero, suc, ◌+◌, ◌*◌, ◌<◌, ◌≤◌, min, max, true, false, eqb, List, [], ◌∷◌, Some, None, Result, refl, ap, add-mul}
+use Rattle.std.proofs.Common.{one-mul, zero-mul, arith}
 use Rattle.std.specs.List.{AllByRecursion}
 use Rattle.std.proofs.Math.Nat.{mul-le-mul_left}
 use Rattle.std.proofs.ByRecursion.{All-weaker}
@@ -10,7 +11,8 @@ use Rattle.record.specs.declared.numbers.Reading.{Reading}
 use Rattle.record.specs.declared.numbers.Sequence.{Sequence}
 use Rattle.disk.specs.Meaning.{Meaning}
 use Rattle.kind.specs.Meaning.{Numbering}
-use Rattle.history.specs.History.{Event, cut, Told, gave, refused, silent, woke, told, end_in, next, rank_of, floor_of, floor_since, next_by, after_by, floor_by, cuts_by, labels_by, after_last, cuts_since, lost, loss, pushed, labels, standing}
+use Rattle.history.specs.History.{Event, cut, Told, gave, refused, silent, woke, told, end_in, next, rank_of, floor_of, floor_since, next_by}
+use Rattle.history.specs.History.{after_by, floor_by, cuts_by, labels_by, after_last, cuts_since, lost, loss, pushed, labels, standing}
 use Rattle.history.specs.Promise.{FloorsZero}
 use Rattle.server.specs.Rules.{Range}
 use Rattle.server.specs.declared.fault.ServerFault.{ServerFault}
@@ -75,7 +77,13 @@ GivesNone s tells = Unit {0}
 
 pub keeps : (k : Numbering) (start : Meaning) (past : List Event) (tells : Told) (s : ℕ) → GivesNone s tells → Keeps k start past tells s
 keeps k start past (gave t reading n xs) s other =
-    record { next_stays = rw other refl; after_stays = rw other refl; floor_rises = rw other (omega arith); cuts_stay = rw other refl; labels_stay = rw other refl }
+    record {
+      next_stays = rw other refl;
+      after_stays = rw other refl;
+      floor_rises = rw other (omega arith);
+      cuts_stay = rw other refl;
+      labels_stay = rw other refl;
+    }
 keeps k start past (refused t reading) s none =
     record {
       next_stays = refl;
@@ -112,7 +120,9 @@ all_pushed k s (suc n) first was lawful all =
 
 module _ {k : Numbering} {start : Meaning} {past : List Event} {s end : ℕ} (inv : Series k start past s end) where
   -- a call that gives it no rank
-  pub series_kept : (event : Event) → GivesNone s (told event) → standing k start s None (event ∷ past) ≡ standing k start s None past → Series k start (event ∷ past) s end
+  pub series_kept :
+      (event : Event) → GivesNone s (told event) → standing k start s None (event ∷ past) ≡ standing k start s None past →
+      Series k start (event ∷ past) s end
   series_kept event none same =
       let stays = keeps k start past (told event) s none in
       let same_cuts = ap (loss k (event ∷ past)) stays.cuts_stay in
@@ -130,7 +140,8 @@ module _ {k : Numbering} {start : Meaning} {past : List Event} {s end : ℕ} (in
   -- so many ranks of it are given, with the end that it has then
   pub series_given :
       (event : Event) (reading : Reading) (n end' : ℕ) → told event ≡ gave s reading n (identifiers k s (rank_of k start s reading past) n) →
-      rank_of k start s reading past + n ≤ k.top.0 + 1 → rank_of k start s reading past + n ≤ end' → end' ≤ rank_of k start s reading past + n + lost k (event ∷ past) →
+      rank_of k start s reading past + n ≤ k.top.0 + 1 → rank_of k start s reading past + n ≤ end' →
+      end' ≤ rank_of k start s reading past + n + lost k (event ∷ past) →
       (InBlocks k (event ∷ past) → Counted k end' (standing k start s None (event ∷ past))) →
       Series k start (event ∷ past) s end'
   series_given event reading n end' is lawful inside near counted =
@@ -145,7 +156,8 @@ module _ {k : Numbering} {start : Meaning} {past : List Event} {s end : ℕ} (in
         labelled =
             rw (is, same)
             (all_pushed k s n first (labels s past) lawful
-            (All-weaker (Label k s (after_last k start s past)) (Label k s first) (λ x h. (h.0, omega (arith, h.1, inv.low), h.2, h.3)) (labels s past) inv.labelled));
+            (All-weaker (Label k s (after_last k start s past)) (Label k s first) (λ x h. (h.0, omega (arith, h.1, inv.low), h.2, h.3))
+            (labels s past) inv.labelled));
         counted = counted;
       }
 

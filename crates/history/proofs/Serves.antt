@@ -1,5 +1,6 @@
 -- One call more on a server, and a list of them.
-use Rattle.std.proofs.Common.{◌≡◌, ℕ, ◌+◌, ◌-◌, ◌<◌, ◌≤◌, List, [], ◌∷◌, ◌++◌, length, map, get_or, set, take, drop, Some, Result, sym, refl, ap, ◌∙◌, subst, append-nil, arith}
+use Rattle.std.proofs.Common.{◌≡◌, ℕ, ◌+◌, ◌-◌, ◌<◌, ◌≤◌, List, [], ◌∷◌, ◌++◌, length, map, get_or, set, take, drop, Some, Result, sym, refl, ap, ◌∙◌}
+use Rattle.std.proofs.Common.{subst, append-nil, arith}
 use Rattle.std.proofs.lemmas.List.{take_all, take_more, length-set, length-drop, take-set, get_or-set_same, get_or-drop, drop-set-lt, drop-drop, map-append}
 use Rattle.record.specs.declared.numbers.Identifier.{Identifier}
 use Rattle.record.specs.declared.numbers.Reading.{Reading}
@@ -23,36 +24,43 @@ use Rattle.history.specs.declared.calls.Turn.{Turn}
 use Rattle.history.proofs.Obeys.{every_history_obeys}
 
 -- one call more, from one disk to another
-module _ {D : Type 0} (moves : Moves D) (meaning : D → Meaning) (k : Numbering) (first : D) (past : List Event) (state after : State) (d d' : D) (reached : Reached moves meaning k first past state d) (call : Call) where
-  pub request_made :
-      (s : ℕ) (reading : Reading) (answer : Result Identifier ServerFault) → call ≡ Give s reading → Gave k state (meaning d) s reading answer after (meaning d') →
-      Chain moves d (tries k state (meaning d) (one s reading)) d' →
-      Made moves meaning k first past call (AnswerGive answer) after d'
-  request_made s reading answer is did chain =
-      record { event = request s reading answer (meaning d'); asked = sym is; answered = refl; reached = gave reached did chain }
+module _ {D : Type 0} (moves : Moves D) (meaning : D → Meaning) (k : Numbering) (first : D) (past : List Event) where
+  module _ (state after : State) (d d' : D) (reached : Reached moves meaning k first past state d) (call : Call) where
+    pub request_made :
+        (s : ℕ) (reading : Reading) (answer : Result Identifier ServerFault) → call ≡ Give s reading →
+        Gave k state (meaning d) s reading answer after (meaning d') →
+        Chain moves d (tries k state (meaning d) (one s reading)) d' →
+        Made moves meaning k first past call (AnswerGive answer) after d'
+    request_made s reading answer is did chain =
+        record { event = request s reading answer (meaning d'); asked = sym is; answered = refl; reached = gave reached did chain }
 
-  pub cut_made :
-      (tear supply : ℕ) (answer : Result Sequence ServerFault) → call ≡ Cut tear supply → WasCut k (meaning d) supply answer after (meaning d') →
-      moves.cuts d tear supply d' →
-      Made moves meaning k first past call (AnswerCut answer) after d'
-  cut_made tear supply answer is did cuts =
-      record { event = cut tear supply answer (meaning d'); asked = sym is; answered = refl; reached = was_cut reached did cuts }
+    pub cut_made :
+        (tear supply : ℕ) (answer : Result Sequence ServerFault) → call ≡ Cut tear supply → WasCut k (meaning d) supply answer after (meaning d') →
+        moves.cuts d tear supply d' →
+        Made moves meaning k first past call (AnswerCut answer) after d'
+    cut_made tear supply answer is did cuts =
+        record { event = cut tear supply answer (meaning d'); asked = sym is; answered = refl; reached = was_cut reached did cuts }
 
--- turns under way: those so far are answered
-pub record Serving {D : Type 0} (moves : Moves D) (meaning : D → Meaning) (k : Numbering) (first : D) (past : List Event) (turns : List Turn) (state : State) (d : D) : Type 0 where
-  pub events : List Event
-  pub answered : turns ≡ turns_of events
-  pub reached : Reached moves meaning k first (events ++ past) state d
+module _ {D : Type 0} (moves : Moves D) (meaning : D → Meaning) (k : Numbering) (first : D) (past : List Event) where
+  -- turns under way: those so far are answered
+  pub record Serving (turns : List Turn) (state : State) (d : D) : Type 0 where
+    pub events : List Event
+    pub answered : turns ≡ turns_of events
+    pub reached : Reached moves meaning k first (events ++ past) state d
 
 -- one more, by what a call extends, of a kind that stayed
 pub serving_step :
-    {D : Type 0} {moves : Moves D} {meaning : D → Meaning} {k k' : Numbering} {first : D} {past : List Event} {turns turns' : List Turn} {state : State} {d : D} {call : Call} {answer : Answer} {after : State} {d' : D} →
+    {D : Type 0} {moves : Moves D} {meaning : D → Meaning} {k k' : Numbering} {first : D} {past : List Event}
+    {turns turns' : List Turn} {state : State} {d : D} {call : Call} {answer : Answer} {after : State} {d' : D} →
     k' ≡ k → turns' ≡ turns ++ (record { call = call; answer = Some answer } ∷ []) →
     ((begin : D) (h : List Event) → Reached moves meaning k' begin h state d → Made moves meaning k' begin h call answer after d') →
     Serving moves meaning k first past turns state d → Serving moves meaning k first past turns' after d'
 serving_step {D} {moves} {meaning} {k} {k'} {first} {past} {turns} {turns'} {state} {d} {call} {answer} {after} {d'} same more extends so_far =
     let extends_k : (begin : D) (h : List Event) → Reached moves meaning k begin h state d → Made moves meaning k begin h call answer after d' =
-    subst (λ (x : Numbering). (begin : D) (h : List Event) → Reached moves meaning x begin h state d → Made moves meaning x begin h call answer after d') same extends in
+    subst
+    (λ (x : Numbering).
+    (begin : D) (h : List Event) → Reached moves meaning x begin h state d →
+    Made moves meaning x begin h call answer after d') same extends in
     let made = extends_k first (so_far.events ++ past) so_far.reached in
     record {
       events = made.event ∷ so_far.events;
@@ -74,7 +82,8 @@ all_calls items turns i items_in turns_in e =
 
 -- the theorem says what all of them obey
 pub served :
-    {D : Type 0} {moves : Moves D} {meaning : D → Meaning} {k : Numbering} {first : D} {past : List Event} {turns made : List Turn} {state : State} {d : D} → LawfulKind k →
+    {D : Type 0} {moves : Moves D} {meaning : D → Meaning} {k : Numbering} {first : D} {past : List Event} {turns made : List Turn} {state : State} {d : D} →
+    LawfulKind k →
     map (λ turn. turn.call) made ≡ map (λ turn. turn.call) turns → Serving moves meaning k first past made state d →
     Served moves meaning k first past turns made state d
 served {D} {moves} {meaning} {k} {first} {past} {turns} {made} {state} {d} lawful asked so_far =
@@ -87,18 +96,25 @@ served {D} {moves} {meaning} {k} {first} {past} {turns} {made} {state} {d} lawfu
     }
 
 -- a server that was just put together
-pub begun-at : {D : Type 0} (moves : Moves D) (meaning : D → Meaning) (k : Numbering) (first : D) (state : State) (d : D) → state ≡ woken k (meaning first) → d ≡ first → Reached moves meaning k first [] state d
+pub begun-at :
+    {D : Type 0} (moves : Moves D) (meaning : D → Meaning) (k : Numbering) (first : D) (state : State) (d : D) →
+    state ≡ woken k (meaning first) → d ≡ first → Reached moves meaning k first [] state d
 begun-at moves meaning k first state d is same =
-    subst (λ (x : State). Reached moves meaning k first [] x d) (sym is) (subst (λ x. Reached moves meaning k first [] (woken k (meaning first)) x) (sym same) begun)
+    subst (λ (x : State). Reached moves meaning k first [] x d) (sym is)
+    (subst (λ x. Reached moves meaning k first [] (woken k (meaning first)) x) (sym same) begun)
 
 -- what a list of calls on it promises
 pub ran :
-    {D : Type 0} {moves : Moves D} {meaning : D → Meaning} {k k' : Numbering} {first : D} {turns made : List Turn} {state after : State} {d d' : D} → IsSize (count (meaning first)) → k' ≡ k →
+    {D : Type 0} {moves : Moves D} {meaning : D → Meaning} {k k' : Numbering} {first : D} {turns made : List Turn} {state after : State} {d d' : D} →
+    IsSize (count (meaning first)) → k' ≡ k →
     ((begin : D) (h : List Event) → Reached moves meaning k' begin h state d → Served moves meaning k' begin h turns made after d') →
     Reached moves meaning k first [] state d → Ran moves meaning k first turns made after d'
 ran {D} {moves} {meaning} {k} {k'} {first} {turns} {made} {state} {after} {d} {d'} sized same promise reached =
     let promise_k : (begin : D) (h : List Event) → Reached moves meaning k begin h state d → Served moves meaning k begin h turns made after d' =
-    subst (λ (x : Numbering). (begin : D) (h : List Event) → Reached moves meaning x begin h state d → Served moves meaning x begin h turns made after d') same promise in
+    subst
+    (λ (x : Numbering).
+    (begin : D) (h : List Event) → Reached moves meaning x begin h state d →
+    Served moves meaning x begin h turns made after d') same promise in
     let all = promise_k first [] reached in
     let whole : all.events ++ [] ≡ all.events = append-nil all.events in
     record {
@@ -112,39 +128,40 @@ ran {D} {moves} {meaning} {k} {k'} {first} {turns} {made} {state} {after} {d} {d
     }
 
 -- one turn of the loop over turns: the one at i is answered
-module _ (items turns : List Turn) (i : ℕ) (none turn : Turn) (taken : i < length items) (rest : drop i items ≡ drop i turns) (same : turn.call ≡ (get_or items i none).call) where
-  pub more_taken : take (i + 1) (set items i turn) ≡ take i items ++ (turn ∷ [])
-  more_taken =
-      take_more (set items i turn) i none (rw (length-set items i turn) taken)
-      ∙ ap (λ (xs : List Turn). xs ++ (get_or (set items i turn) i none ∷ [])) (take-set items i turn)
-      ∙ ap (λ (x : Turn). take i items ++ (x ∷ [])) (get_or-set_same items i turn none taken)
+module _ (items turns : List Turn) (i : ℕ) (none turn : Turn) (taken : i < length items) where
+  module _ (rest : drop i items ≡ drop i turns) (same : turn.call ≡ (get_or items i none).call) where
+    pub more_taken : take (i + 1) (set items i turn) ≡ take i items ++ (turn ∷ [])
+    more_taken =
+        take_more (set items i turn) i none (rw (length-set items i turn) taken)
+        ∙ ap (λ (xs : List Turn). xs ++ (get_or (set items i turn) i none ∷ [])) (take-set items i turn)
+        ∙ ap (λ (x : Turn). take i items ++ (x ∷ [])) (get_or-set_same items i turn none taken)
 
-  pub rest_dropped : drop (i + 1) (set items i turn) ≡ drop (i + 1) turns
-  rest_dropped =
-      drop-set-lt (i + 1) items i turn (omega arith)
-      ∙ sym (drop-drop 1 i items)
-      ∙ ap (drop 1) rest
-      ∙ drop-drop 1 i turns
+    pub rest_dropped : drop (i + 1) (set items i turn) ≡ drop (i + 1) turns
+    rest_dropped =
+        drop-set-lt (i + 1) items i turn (omega arith)
+        ∙ sym (drop-drop 1 i items)
+        ∙ ap (drop 1) rest
+        ∙ drop-drop 1 i turns
 
-  here : get_or items i none ≡ get_or turns i none
-  here =
-      ap (λ (k : ℕ). get_or items k none) (omega arith)
-      ∙ sym (get_or-drop i items 0 none)
-      ∙ ap (λ (xs : List Turn). get_or xs 0 none) rest
-      ∙ get_or-drop i turns 0 none
-      ∙ ap (λ (k : ℕ). get_or turns k none) (omega arith)
+    here : get_or items i none ≡ get_or turns i none
+    here =
+        ap (λ (k : ℕ). get_or items k none) (omega arith)
+        ∙ sym (get_or-drop i items 0 none)
+        ∙ ap (λ (xs : List Turn). get_or xs 0 none) rest
+        ∙ get_or-drop i turns 0 none
+        ∙ ap (λ (k : ℕ). get_or turns k none) (omega arith)
 
-  in_turns : i < length turns
-  in_turns =
-      let l : length items - i ≡ length turns - i = sym (length-drop i items) ∙ ap length rest ∙ length-drop i turns in
-      omega arith
+    in_turns : i < length turns
+    in_turns =
+        let l : length items - i ≡ length turns - i = sym (length-drop i items) ∙ ap length rest ∙ length-drop i turns in
+        omega arith
 
-  pub calls_kept :
-      map (λ (t : Turn). t.call) (take i items) ≡ map (λ (t : Turn). t.call) (take i turns) →
-      map (λ (t : Turn). t.call) (take (i + 1) (set items i turn)) ≡ map (λ (t : Turn). t.call) (take (i + 1) turns)
-  calls_kept before =
-      ap (map (λ (t : Turn). t.call)) more_taken
-      ∙ map-append (λ (t : Turn). t.call) (take i items) (turn ∷ [])
-      ∙ ap (λ (cs : List Call). cs ++ (turn.call ∷ [])) before
-      ∙ ap (λ (x : Call). map (λ (t : Turn). t.call) (take i turns) ++ (x ∷ [])) (same ∙ ap (λ (t : Turn). t.call) here)
-      ∙ sym (ap (map (λ (t : Turn). t.call)) (take_more turns i none in_turns) ∙ map-append (λ (t : Turn). t.call) (take i turns) (get_or turns i none ∷ []))
+    pub calls_kept :
+        map (λ (t : Turn). t.call) (take i items) ≡ map (λ (t : Turn). t.call) (take i turns) →
+        map (λ (t : Turn). t.call) (take (i + 1) (set items i turn)) ≡ map (λ (t : Turn). t.call) (take (i + 1) turns)
+    calls_kept before =
+        ap (map (λ (t : Turn). t.call)) more_taken
+        ∙ map-append (λ (t : Turn). t.call) (take i items) (turn ∷ [])
+        ∙ ap (λ (cs : List Call). cs ++ (turn.call ∷ [])) before
+        ∙ ap (λ (x : Call). map (λ (t : Turn). t.call) (take i turns) ++ (x ∷ [])) (same ∙ ap (λ (t : Turn). t.call) here)
+        ∙ sym (ap (map (λ (t : Turn). t.call)) (take_more turns i none in_turns) ∙ map-append (λ (t : Turn). t.call) (take i turns) (get_or turns i none ∷ []))

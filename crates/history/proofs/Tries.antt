@@ -68,14 +68,16 @@ tries_asked k start past (Awake u) inv ask reservable =
     ∙ tries_wish inv (wish k start ask past) reservable
     ∙ sym (ap (λ (steps : List Step). tried (format k start) steps (latest start past).supply) (asked_lit inv ask))
 tries_asked k start past (Down fault) inv ask reservable =
-    sym (ap (λ (steps : List Step). tried (format k start) steps (latest start past).supply) (cond-true (dark k start past) [] (wanted k start ask past) inv.unlit))
+    sym
+    (ap (λ (steps : List Step). tried (format k start) steps (latest start past).supply) (cond-true (dark k start past) [] (wanted k start ask past) inv.unlit))
 
 -- what a call wants is such a wish
 pub wish_reserves : (k : Numbering) → LawfulKind k → (start : Meaning) (past : List Event) (ask : Ask) → Reservable k (wish k start ask past)
 wish_reserves k lawful start past (one s reading) =
     ⊎_elim
     (λ l.
-    let is : wish k start (one s reading) past ≡ by_floor k s (end_in k start (latest start past) s) (next k start s past) 1 (k.floor reading) = rw (lt-ltb s 8 l) refl in
+    let is : wish k start (one s reading) past ≡ by_floor k s (end_in k start (latest start past) s) (next k start s past) 1 (k.floor reading) =
+    rw (lt-ltb s 8 l) refl in
     subst (Reservable k) (sym is)
     (floor_cases k s (end_in k start (latest start past) s) (next k start s past) 1 reading (Reservable k)
     (λ none. tt) (λ has high. tt) (λ has up_to inside. tt)

@@ -1,5 +1,6 @@
 -- Waking on sectors that recover.
-use Rattle.std.proofs.Common.{◌≡◌, ℕ, ◌<◌, ◌≤◌, true, false, ◌&&◌, eqb, List, [], ◌∷◌, ◌++◌, map, length, Some, None, Ok, Option, Result, sym, refl, ap, ◌∙◌, subst, ⊎_elim, zero-mul, arith}
+use Rattle.std.proofs.Common.{◌≡◌, ℕ, ◌<◌, ◌≤◌, true, false, ◌&&◌, eqb, List, [], ◌∷◌, ◌++◌, map, length, Some, None, Ok, Option, Result, sym, refl}
+use Rattle.std.proofs.Common.{ap, ◌∙◌, subst, ⊎_elim, zero-mul, arith}
 use Rattle.std.specs.List.{range_with_len}
 use Rattle.std.proofs.lemmas.List.{get_or-map, length-map}
 use Rattle.std.proofs.lemmas.List.FromFn.{get_or-map-range_with_len, length-map-range_with_len}
@@ -17,7 +18,8 @@ use Rattle.ring.proofs.Cuts.{cut_at_rest}
 use Rattle.ring.proofs.Starts.{blank_recovers, blank_top, blank_end, recovers_answer, recovers_agrees, agrees_recovers, known_end_is}
 use Rattle.ring.specs.Token.{empty_block, empty_blocks, block_in}
 use Rattle.ring.specs.declared.token.Block.{Block}
-use Rattle.history.specs.History.{lost, Event, cut, after_of, asks, latest, end_in, wish, wanted, too_little, dark_by, dark, asked, writes, reserved_by, made, cut_from, standing}
+use Rattle.history.specs.History.{lost, Event, cut, after_of, asks, latest, end_in, wish, wanted, too_little, dark_by, dark, asked, writes}
+use Rattle.history.specs.History.{reserved_by, made, cut_from, standing}
 use Rattle.history.specs.Promise.{CutLaws}
 use Rattle.server.specs.Rules.{format, Ask, Range, Wish, draws, woken, awake, top_told, end_at, next_at, WasCut}
 use Rattle.server.specs.declared.fault.ServerFault.{ServerFault}
@@ -97,7 +99,9 @@ module _ (k : Numbering) (start : Meaning) (lawful : LawfulKind k) (without : Wi
         agrees = recovers_agrees (format k start) start start_recovers;
         form = refl;
         kept = without.kept;
-        eight = length-map (map (known_end (known (format k start) start.reading)) (range_with_len 0 8)) empty_block ∙ length-map-range_with_len (known_end (known (format k start) start.reading)) 0 8;
+        eight =
+            length-map (map (known_end (known (format k start) start.reading)) (range_with_len 0 8)) empty_block
+            ∙ length-map-range_with_len (known_end (known (format k start) start.reading)) 0 8;
         nexts = next-woken k start start start_recovers;
         ends = last-woken k start start start_recovers;
         series = λ s l. start_series s;
@@ -132,82 +136,94 @@ standing_lit k start s x y (event ∷ past) lit = by_asks (asks event) lit (stan
         ∙ ap (λ (rs : List Range). made k start s y past (Some ask) ++ rs) (older parts.0)
 
 -- a cut
-module _ (k : Numbering) (start : Meaning) (past : List Event) (tear supply : ℕ) (answer : Result Sequence ServerFault) (after : State) (m : Meaning) (was : WasCut k (latest start past) supply answer after m) where
-  -- what the server is and tells after it, where the sectors recover
-  woken_again :
-      Recovers (format k start) m.reading → ((s : ℕ) → s < 8 → Series k start (cut tear supply answer m ∷ past) s (end_in k start m s)) →
-      top (format k start) m.reading ≤ writes k start past →
-      Invariant k start (cut tear supply answer m ∷ past) after × CutLaws k start supply past answer m
-  woken_again recovers series tops = (
-    subst (Invariant k start (cut tear supply answer m ∷ past)) (sym (was.state ∙ wakes k start m recovers))
-        (record {
-          lit = refl;
-          agrees = recovers_agrees (format k start) m recovers;
-          form = refl;
-          kept = was.left.keeps;
-          eight = length-map (map (known_end (known (format k start) m.reading)) (range_with_len 0 8)) empty_block ∙ length-map-range_with_len (known_end (known (format k start) m.reading)) 0 8;
-          nexts = next-woken k start m recovers;
-          ends = last-woken k start m recovers;
-          series = series;
-          tops = tops;
-        }),
-    record { leaves = was.left; tells = was.told ∙ tells k start m recovers },
-  )
+module _ (k : Numbering) (start : Meaning) (past : List Event) (tear supply : ℕ) (answer : Result Sequence ServerFault) where
+  module _ (after : State) (m : Meaning) (was : WasCut k (latest start past) supply answer after m) where
+    -- what the server is and tells after it, where the sectors recover
+    woken_again :
+        Recovers (format k start) m.reading → ((s : ℕ) → s < 8 → Series k start (cut tear supply answer m ∷ past) s (end_in k start m s)) →
+        top (format k start) m.reading ≤ writes k start past →
+        Invariant k start (cut tear supply answer m ∷ past) after × CutLaws k start supply past answer m
+    woken_again recovers series tops = (
+      subst (Invariant k start (cut tear supply answer m ∷ past)) (sym (was.state ∙ wakes k start m recovers))
+          (record {
+            lit = refl;
+            agrees = recovers_agrees (format k start) m recovers;
+            form = refl;
+            kept = was.left.keeps;
+            eight =
+                length-map (map (known_end (known (format k start) m.reading)) (range_with_len 0 8)) empty_block
+                ∙ length-map-range_with_len (known_end (known (format k start) m.reading)) 0 8;
+            nexts = next-woken k start m recovers;
+            ends = last-woken k start m recovers;
+            series = series;
+            tops = tops;
+          }),
+      record { leaves = was.left; tells = was.told ∙ tells k start m recovers },
+    )
 
-  pub cut_while_up : (u : Up) → IsUp k start past u → Invariant k start (cut tear supply answer m ∷ past) after × CutLaws k start supply past answer m
-  cut_while_up u inv =
-      let f = format k start in
-      let same : m.reading ≡ (latest start past).reading = cut_at_rest (latest start past) m supply inv.kept was.left in
-      let before : Recovers f (latest start past).reading =
-      subst (λ (x : Format). Recovers x (latest start past).reading) inv.form (agrees_recovers u.ring (latest start past) inv.agrees) in
-      woken_again (subst (Recovers f) (sym same) before)
-      (λ s l.
-      let i = inv.series s l in
-      let e : end_in k start m s ≡ end_in k start (latest start past) s = ap (λ (xs : List (List ℕ)). end_of f xs s) same in
-      series_cut i tear supply answer m
-      (omega (arith, i.inside))
-      (omega (arith, i.near, i.bound))
-      (λ zeros. rw (e, standing_lit k start s (Some m) None past inv.lit) (i.counted zeros)))
-      (omega (arith, inv.tops, ap (top f) same))
+    pub cut_while_up : (u : Up) → IsUp k start past u → Invariant k start (cut tear supply answer m ∷ past) after × CutLaws k start supply past answer m
+    cut_while_up u inv =
+        let f = format k start in
+        let same : m.reading ≡ (latest start past).reading = cut_at_rest (latest start past) m supply inv.kept was.left in
+        let before : Recovers f (latest start past).reading =
+        subst (λ (x : Format). Recovers x (latest start past).reading) inv.form (agrees_recovers u.ring (latest start past) inv.agrees) in
+        woken_again (subst (Recovers f) (sym same) before)
+        (λ s l.
+        let i = inv.series s l in
+        let e : end_in k start m s ≡ end_in k start (latest start past) s = ap (λ (xs : List (List ℕ)). end_of f xs s) same in
+        series_cut i tear supply answer m
+        (omega (arith, i.inside))
+        (omega (arith, i.near, i.bound))
+        (λ zeros. rw (e, standing_lit k start s (Some m) None past inv.lit) (i.counted zeros)))
+        (omega (arith, inv.tops, ap (top f) same))
 
-  -- nothing of the pending reservation stands, as far as series s can tell
-  series_fallen : (inv : IsDown k start past) (s : ℕ) → s < 8 → end_in k start m s ≡ end_in k start inv.base s → Series k start (cut tear supply answer m ∷ past) s (end_in k start m s)
-  series_fallen inv s l e =
-      let i = inv.series s l in
-      let fallen : (eqb inv.pending s && eqb (end_in k start m s) inv.claimed.end) ≡ false =
-      ⊎_elim
-      (λ own.
-      rw (ne_eqb (end_in k start m s) inv.claimed.end (λ h. omega (arith, inv.above, ap (end_in k start inv.base) own)), eq-eqb inv.pending s own) refl)
-      (λ other. rw (ne_eqb inv.pending s other) refl)
-      (cases_eq inv.pending s) in
-      let st : standing k start s (Some m) past ≡ standing k start s None past =
-      inv.stands s m ∙ cond-false (eqb inv.pending s && eqb (end_in k start m s) inv.claimed.end) (inv.claimed ∷ standing k start s None past) (standing k start s None past) fallen in
-      series_cut i tear supply answer m
-      (omega (arith, i.inside))
-      (omega (arith, i.near, i.bound))
-      (λ zeros. rw (e, st) (i.counted zeros))
+    -- nothing of the pending reservation stands, as far as series s can tell
+    series_fallen :
+        (inv : IsDown k start past) (s : ℕ) → s < 8 → end_in k start m s ≡ end_in k start inv.base s →
+        Series k start (cut tear supply answer m ∷ past) s (end_in k start m s)
+    series_fallen inv s l e =
+        let i = inv.series s l in
+        let fallen : (eqb inv.pending s && eqb (end_in k start m s) inv.claimed.end) ≡ false =
+        ⊎_elim
+        (λ own.
+        rw (ne_eqb (end_in k start m s) inv.claimed.end (λ h. omega (arith, inv.above, ap (end_in k start inv.base) own)), eq-eqb inv.pending s own) refl)
+        (λ other. rw (ne_eqb inv.pending s other) refl)
+        (cases_eq inv.pending s) in
+        let st : standing k start s (Some m) past ≡ standing k start s None past =
+        inv.stands s m
+        ∙ cond-false (eqb inv.pending s && eqb (end_in k start m s) inv.claimed.end) (inv.claimed ∷ standing k start s None past)
+        (standing k start s None past) fallen in
+        series_cut i tear supply answer m
+        (omega (arith, i.inside))
+        (omega (arith, i.near, i.bound))
+        (λ zeros. rw (e, st) (i.counted zeros))
 
-  -- the pending reservation stands
-  series_stood : (inv : IsDown k start past) → end_in k start m inv.pending ≡ inv.claimed.end → Series k start (cut tear supply answer m ∷ past) inv.pending (end_in k start m inv.pending)
-  series_stood inv e =
-      let s = inv.pending in
-      let i = inv.series s inv.one_of_eight in
-      let stood_up : (eqb s s && eqb (end_in k start m s) inv.claimed.end) ≡ true = rw (eq-eqb s s refl, eq-eqb (end_in k start m s) inv.claimed.end e) refl in
-      let st : standing k start s (Some m) past ≡ inv.claimed ∷ standing k start s None past =
-      inv.stands s m ∙ cond-true (eqb s s && eqb (end_in k start m s) inv.claimed.end) (inv.claimed ∷ standing k start s None past) (standing k start s None past) stood_up in
-      series_cut i tear supply answer m
-      (omega (arith, i.inside, inv.above))
-      (omega (arith, inv.most))
-      (λ zeros. rw (e, st) (inv.counted zeros))
+    -- the pending reservation stands
+    series_stood :
+        (inv : IsDown k start past) → end_in k start m inv.pending ≡ inv.claimed.end →
+        Series k start (cut tear supply answer m ∷ past) inv.pending (end_in k start m inv.pending)
+    series_stood inv e =
+        let s = inv.pending in
+        let i = inv.series s inv.one_of_eight in
+        let stood_up : (eqb s s && eqb (end_in k start m s) inv.claimed.end) ≡ true =
+        rw (eq-eqb s s refl, eq-eqb (end_in k start m s) inv.claimed.end e) refl in
+        let st : standing k start s (Some m) past ≡ inv.claimed ∷ standing k start s None past =
+        inv.stands s m
+        ∙ cond-true (eqb s s && eqb (end_in k start m s) inv.claimed.end) (inv.claimed ∷ standing k start s None past)
+        (standing k start s None past) stood_up in
+        series_cut i tear supply answer m
+        (omega (arith, i.inside, inv.above))
+        (omega (arith, inv.most))
+        (λ zeros. rw (e, st) (inv.counted zeros))
 
-  pub cut_while_down : IsDown k start past → Invariant k start (cut tear supply answer m ∷ past) after × CutLaws k start supply past answer m
-  cut_while_down inv =
-      let l = inv.leaves m supply was.left in
-      woken_again l.recovers
-      (λ s below.
-      ⊎_elim (series_fallen inv s below)
-      (λ own.
-      subst (λ (t : ℕ). Series k start (cut tear supply answer m ∷ past) t (end_in k start m t)) (sym own.0)
-      (series_stood inv (ap (end_in k start m) (sym own.0) ∙ own.1)))
-      (l.ends s))
-      (inv.tops m supply was.left)
+    pub cut_while_down : IsDown k start past → Invariant k start (cut tear supply answer m ∷ past) after × CutLaws k start supply past answer m
+    cut_while_down inv =
+        let l = inv.leaves m supply was.left in
+        woken_again l.recovers
+        (λ s below.
+        ⊎_elim (series_fallen inv s below)
+        (λ own.
+        subst (λ (t : ℕ). Series k start (cut tear supply answer m ∷ past) t (end_in k start m t)) (sym own.0)
+        (series_stood inv (ap (end_in k start m) (sym own.0) ∙ own.1)))
+        (l.ends s))
+        (inv.tops m supply was.left)

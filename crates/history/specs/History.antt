@@ -1,5 +1,5 @@
 -- Histories of a server: the calls that were made, what each answered, and what the disk was after it; and what they tell.
-use Rattle.std.specs.Prelude.{ℕ, ◌+◌, ◌-◌, ◌*◌, ◌^◌, max, Bool, true, false, if◌then◌else◌, ◌&&◌, ◌||◌, List, [], ◌∷◌, ◌++◌, length, Some, None, Ok, Err, Option, Result, ◌==◌, nat_le, nat_lt}
+use Rattle.std.specs.Prelude.{ℕ, ◌+◌, ◌<◌, ◌≤◌, ◌⊎◌, ◌-◌, ◌*◌, ◌^◌, max, Bool, true, false, if◌then◌else◌, ◌&&◌, ◌||◌, List, [], ◌∷◌, ◌++◌, length, Some, None, Ok, Err, Option, Result, ◌==◌, nat_le, nat_lt}
 use Rattle.record.specs.declared.numbers.Identifier.{Identifier}
 use Rattle.record.specs.declared.numbers.Rank.{Rank}
 use Rattle.record.specs.declared.numbers.Reading.{Reading}
@@ -232,6 +232,11 @@ standing k start s next_cut [] = []
 standing k start s next_cut (event ∷ past) =
     made k start s next_cut past (asks event)
     ++ standing k start s (cut_from (asks event) (after_of event) next_cut) past
+
+-- one of these covers a rank
+abbrev pub IsCovered : ℕ → List Range → Type 0
+IsCovered rank [] = ⊥
+IsCovered rank (r ∷ older) = ((r.first ≤ rank) × (rank < r.end)) ⊎ IsCovered rank older
 
 -- how many of these were made before the one that covers a rank
 abbrev pub made_before : ℕ → List Range → ℕ

@@ -12,7 +12,7 @@ use Rattle.disk.specs.Blank.{WithoutRecords}
 use Rattle.ring.specs.Left.{Follows}
 use Rattle.ring.specs.Operations.{Went, Chain}
 use Rattle.ring.specs.Ring.{Step, top}
-use Rattle.history.specs.History.{Event, request, cut, asks, tried_by, latest, end_in, rank_of, floor_of, floor_since, after_last, cuts_since, loss, labels, top_record, dark, asked, succeeded, writes, standing, made_before}
+use Rattle.history.specs.History.{Event, request, cut, asks, tried_by, latest, end_in, rank_of, floor_of, floor_since, after_last, cuts_since, loss, labels, top_record, dark, asked, succeeded, writes, standing, IsCovered, made_before}
 use Rattle.server.specs.Rules.{format, Range, one, tries, woken, Gave, WasCut}
 use Rattle.server.specs.declared.fault.ServerFault.{ServerFault}
 use Rattle.server.specs.declared.fault.ServerFault.TheVariants.{AboveTop}
@@ -91,6 +91,7 @@ module _ (k : Numbering) (start : Meaning) (s : ℕ) (reading : Reading) (past :
 
   -- hi/lo: the rank is hi × block size + lo, where hi reservations were made before the one that covers it, its own among them
   pub record HiLo (answer : Result Identifier ServerFault) (after : Meaning) : Type 0 where
+    pub covered : IsCovered rank (stands_with answer after)
     pub lo : ℕ
     pub below : lo < k.block
     pub sum : rank ≡ made_before rank (stands_with answer after) * k.block + lo

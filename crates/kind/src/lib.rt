@@ -11,6 +11,6 @@ mod time;
 
 pub use fault::SettingFault;
 pub use meaning::Kind;
-pub use serial::SerialKind;
+pub use serial::{SerialKind, serial_limits};
 pub use snowflake::{Parts, pack, take_apart};
-pub use time::{Correction, Lease, TimeKind};
+pub use time::{Correction, Lease, TimeKind, time_limits};

@@ -10,6 +10,11 @@ use record::{Identifier, Rank, Reading};
 // The largest block.
 const LARGEST: u64 = 10_000;
 
+// What the number is.
+pub fn serial_limits()
+    ensures { LARGEST ≡ 10000 }
+{}
+
 // The serial kind, with the size of its blocks.
 #[derive(Clone, Copy, PartialEq, Eq, Debug)]
 pub struct SerialKind {

@@ -17,6 +17,11 @@ const LONGEST: u64 = 60_000;
 // The highest number of a box.
 const LAST_BOX: u64 = 127;
 
+// What these numbers are.
+pub fn time_limits()
+    ensures { (STEPS ≡ 4096) × (LONGEST ≡ 60000) × (LAST_BOX ≡ 127) }
+{}
+
 // The time that the ranks of one reservation last, in milliseconds.
 #[derive(Clone, Copy, PartialEq, Eq, Debug)]
 pub struct Lease {

@@ -31,7 +31,8 @@ counted_moves below =
           λ d i bytes d'. below.writes d.disk i bytes d'.disk × (d'.counts ≡ with_write d.counts);
       flushes = λ d i d'. below.flushes d.disk i d'.disk × (d'.counts ≡ with_flush d.counts);
       cuts =
-          λ d tear supply d'. below.cuts d.disk tear supply d'.disk × (d'.counts ≡ with_cut d.counts);
+          λ d tear supply d'.
+          below.cuts d.disk tear supply d'.disk × (d'.counts ≡ with_cut d.counts);
     }
 
 -- where chance tears, a cut is that of the disk below with some tear; no other call asks the source

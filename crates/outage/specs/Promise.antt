@@ -12,4 +12,5 @@ use Rattle.history.specs.declared.calls.Turn.{Turn}
 -- succeed, and obey the laws
 abbrev pub MadeOnTorn : Numbering → List Turn → List Turn → Type 0
 MadeOnTorn k turns after =
-    (state : State) × (disk : MemoryDisk (Option Held)) × RanBlank latest_write k 10 5 turns after state disk
+    (state : State) × (disk : MemoryDisk (Option Held))
+    × RanBlank latest_write k 10 5 turns after state disk

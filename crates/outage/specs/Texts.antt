@@ -1,34 +1,28 @@
 -- What is printed of a turn.
-use Rattle.std.specs.Prelude.{ℕ, ◌-◌, ◌^◌, List, [], ◌++◌, codes, Some, None, Ok, Err, Option}
+use Rattle.std.specs.Prelude.{ℕ, ◌-◌, ◌^◌, List, ◌++◌, codes, Some, None, Ok, Err, Option}
 use Rattle.std.specs.Fmt.{decimal, format_spec, styled_decimal}
 use Rattle.history.specs.declared.calls.Answer.{Answer}
 use Rattle.history.specs.declared.calls.Answer.TheVariants.{Give as Gave, Cut as WasCut}
 use Rattle.history.specs.declared.calls.Call.{Call}
 use Rattle.history.specs.declared.calls.Call.TheVariants.{Give, Cut}
 use Rattle.history.specs.declared.calls.Turn.{Turn}
-use Rattle.server.specs.Faults.{particulars}
+use Rattle.server.specs.Faults.{server_fault_text}
 use Rattle.server.specs.declared.fault.ServerFault.{ServerFault}
 
 -- a number at the right end of two columns
 abbrev pub in_two_columns : ℕ → List ℕ
 in_two_columns n = styled_decimal (format_spec 32 3 0 2 (2 ^ 64 - 1)) n
 
--- the sector, where a denial tells one
-abbrev pub place_text : Option ℕ → List ℕ
-place_text None = []
-place_text (Some sector) = codes ", sector " ++ decimal sector
-
--- a denial: its number, and the sector where it tells one
+-- a denial, by the server's own sentence
 abbrev pub denied_text : ServerFault → List ℕ
-denied_text fault =
-    codes "denied with "
-    ++ (decimal (particulars fault).number ++ place_text (particulars fault).sector)
+denied_text fault = codes "denied: " ++ server_fault_text fault
 
 -- what was asked
 abbrev pub call_text : Call → List ℕ
 call_text (Give series reading) = codes "request of series " ++ (decimal series ++ codes "     | ")
 call_text (Cut tear supply) =
-    codes "cut, tear " ++ (in_two_columns tear ++ (codes ", supply " ++ (in_two_columns supply ++ codes " | ")))
+    codes "cut, tear "
+    ++ (in_two_columns tear ++ (codes ", supply " ++ (in_two_columns supply ++ codes " | ")))
 
 -- what it was answered
 abbrev pub answer_text : Option Answer → List ℕ

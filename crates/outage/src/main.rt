@@ -4,13 +4,12 @@
 ghost use Rattle.std.specs.Prelude.{◌≡◌, Some, None};
 ghost use Rattle.history.specs.declared.calls.Call.TheVariants.{Give, Cut};
 ghost use Rattle.outage.specs.Promise.{MadeOnTorn};
-ghost use Rattle.outage.specs.Texts.{turn_text, denied_text};
+ghost use Rattle.outage.specs.Texts.{turn_text};
 
 use disk::LatestWrite;
 use history::{Answer, Call, Turn, run_blank};
 use kind::{Kind, SerialKind};
 use record::{Identifier, Reading, SECTOR_BYTES, Sequence};
-use server::ServerFault;
 use std::{fmt, io};
 
 const SECTORS: usize = 10;
@@ -57,25 +56,9 @@ impl fmt::Display for Told {
             Some(Answer::Give(Ok(Identifier(number)))) => write!(f, "identifier {number}"),
             Some(Answer::Cut(Ok(Sequence(top)))) => write!(f, "top record {top}"),
             Some(Answer::Give(Err(fault)) | Answer::Cut(Err(fault))) => {
-                write!(f, "{}", Denied(fault))
+                write!(f, "denied: {fault}")
             }
         }
-    }
-}
-
-// A denial, with the sector where it tells one.
-#[derive(Drop)]
-struct Denied(ServerFault);
-
-impl fmt::Display for Denied {
-    ghost output = { λ denied. Some (denied_text denied.0) };
-
-    fn fmt<W: fmt::Write>(&self, f: &mut fmt::Formatter<W>) -> fmt::Result {
-        write!(f, "denied with {}", self.0.number())?;
-        if let Some(sector) = self.0.sector() {
-            write!(f, ", sector {sector}")?;
-        }
-        Ok(())
     }
 }
 

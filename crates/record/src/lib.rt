@@ -9,6 +9,7 @@ pub use crc::{check_values, crc32};
 pub use numbers::{Identifier, Rank, Reading, Sequence};
 pub use sector::{
     Content, Format, LAST_SEQUENCE, Record, SECTOR_BYTES, classify, cleared, encode, is_sound,
+    limits,
 };
 
 #[cfg(test)]

@@ -39,8 +39,7 @@ pub const LAST_SEQUENCE: u64 = 0x3fff_ffff_ffff_ffff;
 // What these numbers are: 32 bytes, and the sequence numbers below 2^62.
 pub fn limits()
     ensures { (SECTOR_BYTES ≡ 32) × (LAST_SEQUENCE + 1 ≡ 2 ^ 62) }
-{
-}
+{}
 
 // Whether the last four bytes are the checksum of the others.
 pub fn is_sound(sector: &[u8; SECTOR_BYTES]) -> bool

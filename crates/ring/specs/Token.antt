@@ -1,6 +1,7 @@
 -- A reservation that was written, by what its flush answers, and the blocks that ranks are drawn from once it is flushed.
 use Rattle.std.specs.Prelude.{◌≡◌, ℕ, ◌+◌, ◌<◌, ◌≤◌, max, if◌then◌else◌, List, map, Some, None, Ok, Err, Option, Result, ◌==◌, nat_lt, slice_index_or, slice_set}
 use Rattle.record.specs.declared.numbers.Rank.{Rank}
+use Rattle.record.specs.declared.sector.Record.{Record}
 use Rattle.disk.specs.declared.fault.DiskFault.{DiskFault}
 use Rattle.ring.specs.declared.token.Block.{Block}
 use Rattle.ring.specs.declared.token.Blocks.{Blocks}
@@ -8,6 +9,16 @@ use Rattle.ring.specs.declared.token.Drawn.{Drawn}
 use Rattle.ring.specs.declared.token.Reserved.{Reserved}
 use Rattle.ring.specs.declared.token.Unconfirmed.{Unconfirmed}
 use Rattle.ring.specs.declared.token.Written.{Written}
+
+-- whether it was done, without what it was answered with
+abbrev pub done : {A E : Type 0} → Result A E → Result (Unit {0}) E
+done (Ok value) = Ok tt
+done (Err fault) = Err fault
+
+-- a reservation whose record was written into a sector, with the first rank that is newly reserved
+abbrev pub written_in : Record → Rank → ℕ → Written
+written_in entry start sector =
+    record { claim = record { series = entry.series; end = entry.end }; start = start; sector = sector }
 
 -- it is confirmed, or comes back with the fault
 abbrev pub confirm : Written → Result (Unit {0}) DiskFault → Result Reserved Unconfirmed

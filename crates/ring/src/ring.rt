@@ -1,6 +1,6 @@
 // The ring over any disk.
 ghost use Rattle.std.specs.Prelude.{◌≡◌, ◌+◌, ◌^◌, ◌<◌, ◌≤◌, IfOk, IfErr, Some, None, Ok, Err, MatchResult, slice_set};
-ghost use Rattle.ring.specs.Token.{empty_blocks};
+ghost use Rattle.ring.specs.Token.{done, empty_blocks};
 ghost use Rattle.ring.specs.Left.{end_of, AtMostSoMany, ReservationLaws, TopsCounted};
 ghost use Rattle.ring.specs.Faults.{with_work};
 ghost use Rattle.disk.specs.Meaning.{Meaning, count, answer_of};
@@ -8,7 +8,7 @@ ghost use Rattle.disk.specs.declared.fault.Operation.TheVariants.{Write};
 ghost use Rattle.ring.specs.Operations.{Writes};
 ghost use Rattle.ring.specs.Runs.{look, known_carry, Appends, RunsUnlessRefused, RunsShort, RunsClear, RunsStopped, RunsWritten};
 ghost use Rattle.ring.specs.Search.{Tried, Ended, refusal, admit};
-ghost use Rattle.ring.specs.declared.fault.Work.TheVariants.{Carry};
+ghost use Rattle.ring.specs.declared.fault.Work.TheVariants.{Carry, Reservation};
 ghost use Rattle.record.specs.Sector.{content, encoded};
 ghost use Rattle.ring.specs.Ring.{sector_of, known_gap, next_of, top, scan, foreign_below, recover, known_end, known_ends, Agrees};
 
@@ -155,6 +155,42 @@ impl Ring {
         Ok(())
     }
 
+    // Writes a reservation into the gap, and notes it.
+    fn write_reservation<D: Disk>(
+        &mut self,
+        disk: &mut D,
+        gap: usize,
+        claim: Claim,
+        start: Rank,
+    ) -> Result<Written, Interrupted>
+        requires { gap ≡ known_gap self.old }
+        ensures written { IfOk result (λ w.
+            w ≡ record { claim = claim; start = start; sector = known_gap self.old }) }
+        ensures answer { let m = D.meaning disk.old in
+            let work = Reservation claim.series in
+            done result ≡ with_work work (answer_of Write m (known_gap self.old)) }
+        ensures effect { let m = D.meaning disk.old in
+            let after = D.meaning disk.new in
+            MatchResult result
+            (λ _. Writes self.old m claim.series claim.end self.new after)
+            (λ _. (after ≡ m) × (self.new ≡ self.old)) }
+        ensures moves { let entry = next_of self.old claim.series claim.end in
+            let bytes = encoded self.old.format.tag entry in
+            D.moves.writes disk.old (known_gap self.old) bytes disk.new }
+    {
+        let entry = self.known.next(claim);
+        match Written::write(disk, self.format.tag, entry, start, gap) {
+            Ok(written) => {
+                self.known = self.known.note(entry);
+                Ok(written)
+            }
+            Err(fault) => Err(Interrupted {
+                work: Work::Reservation(claim.series),
+                fault,
+            }),
+        }
+    }
+
     // Carries a live record: writes it anew into the gap, and flushes.
     fn carry<D: Disk>(&mut self, disk: &mut D, entry: Record) -> Result<(), Interrupted>
         ensures work { IfErr result (λ stopped. stopped.work ≡ Carry entry.series) }
@@ -205,8 +241,8 @@ impl Ring {
     {
         let start = self.known.end(claim.series);
         let gap = self.clear_the_way(disk, claim.series)?;
-        self.write_record(disk, gap, Work::Reservation(claim.series), claim)?;
-        Ok(Written::new(claim, start, gap))
+        let written = self.write_reservation(disk, gap, claim, start)?;
+        Ok(written)
     }
 
     // What a reservation claims, if it may be made at all.

@@ -1,15 +1,16 @@
 // A reservation between its write and its flush.
-ghost use Rattle.std.specs.Prelude.{◌≡◌, ℕ, ◌<◌, ◌⊎◌, MatchResult, IfSome};
-ghost use Rattle.disk.specs.Meaning.{answer_of, Flushed};
-ghost use Rattle.disk.specs.declared.fault.Operation.TheVariants.{Flush};
+ghost use Rattle.std.specs.Prelude.{◌≡◌, ℕ, ◌<◌, ◌⊎◌, MatchResult, IfSome, IfOk};
+ghost use Rattle.record.specs.Sector.{encoded};
+ghost use Rattle.disk.specs.Meaning.{answer_of, Wrote, Flushed};
+ghost use Rattle.disk.specs.declared.fault.Operation.TheVariants.{Write, Flush};
 ghost use Rattle.ring.specs.Ring.{known_ends};
-ghost use Rattle.ring.specs.Token.{confirm, empty_block, empty_blocks, block_in, extend, fill, rank_of, draw, after_rank, after_draw, Holds, Covers};
+ghost use Rattle.ring.specs.Token.{done, written_in, confirm, empty_block, empty_blocks, block_in, extend, fill, rank_of, draw, after_rank, after_draw, Holds, Covers};
 ghost use Rattle.ring.specs.declared.fault.Work.TheVariants.{Reservation};
 
 use crate::fault::{Interrupted, Work};
 use crate::known::{Claim, Known};
 use disk::{Disk, DiskFault};
-use record::Rank;
+use record::{Rank, Record, encode};
 
 // A reservation whose record is written and not flushed: what it claims, the first rank that is newly reserved, and the
 // sector of its record. No rank can be drawn from it, and it cannot be let go: it is confirmed by a flush, or given up.
@@ -54,15 +55,28 @@ pub struct Drawn {
 }
 
 impl Written {
-    // A reservation whose record is in its sector.
-    pub(crate) fn new(claim: Claim, start: Rank, sector: usize) -> Written
-        ensures { result ≡ record { claim = claim; start = start; sector = sector } }
+    // Writes the record of a reservation into its sector. Nothing else makes a written reservation.
+    pub(crate) fn write<D: Disk>(
+        disk: &mut D,
+        tag: u8,
+        entry: Record,
+        start: Rank,
+        sector: usize,
+    ) -> Result<Written, DiskFault>
+        ensures answer { done result ≡ answer_of Write (D.meaning disk.old) sector }
+        ensures written { IfOk result (λ w. w ≡ written_in entry start sector) }
+        ensures effect { let m = D.meaning disk.old in
+            let after = D.meaning disk.new in
+            MatchResult result (λ _. Wrote m sector (encoded tag entry) after) (λ _. after ≡ m) }
+        ensures moves { D.moves.writes disk.old sector (encoded tag entry) disk.new }
     {
-        Written {
+        disk.write(sector, &encode(tag, entry))?;
+        let claim = Claim::from(entry);
+        Ok(Written {
             claim,
             start,
             sector,
-        }
+        })
     }
 
     // Flushes the reservation. Where the disk denies that, the reservation comes back, to be given up.

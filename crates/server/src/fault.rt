@@ -1,9 +1,11 @@
 // Why the server denied a call.
-ghost use Rattle.std.specs.Prelude.{◌≡◌};
-ghost use Rattle.server.specs.Faults.{particulars};
+ghost use Rattle.std.specs.Prelude.{◌≡◌, Some};
+ghost use Rattle.server.specs.Faults.{particulars, server_fault_text};
 ghost use Rattle.server.specs.declared.fault.ServerFault.TheVariants.{Ring as OfRing};
 
 use ring::{Particulars, RingFault};
+use std::error::Error;
+use std::fmt;
 
 // A denial of the server.
 #[derive(Clone, Copy, PartialEq, Eq, Debug)]
@@ -51,6 +53,22 @@ impl ServerFault {
         self.particulars().sector
     }
 }
+
+impl fmt::Display for ServerFault {
+    ghost output = { λ fault. Some (server_fault_text fault) };
+
+    fn fmt<W: fmt::Write>(&self, f: &mut fmt::Formatter<W>) -> fmt::Result {
+        match *self {
+            ServerFault::Down(fault) => write!(f, "the server is down: {fault}"),
+            ServerFault::Series(series) => write!(f, "there is no series {series}"),
+            ServerFault::Reading => f.write_str("the clock's reading has no floor"),
+            ServerFault::AboveTop => f.write_str("the rank is above the kind's top"),
+            ServerFault::Ring(fault) => write!(f, "{fault}"),
+        }
+    }
+}
+
+impl Error for ServerFault {}
 
 impl From<RingFault> for ServerFault {
     ghost from_gives = { λ f r. r ≡ OfRing f };

@@ -45,8 +45,12 @@ impl<D: Disk, K: Kind> Server<D, K> {
     // An identifier of a series at a clock's reading: its rank is the larger of next and the reading's floor.
     pub fn give(&mut self, series: u8, reading: Reading) -> Result<Identifier, ServerFault>
         ensures kind { self.new.kind ≡ self.old.kind }
-        ensures rules { Gave (K.numbering self.old.kind) self.old.state (D.meaning self.old.disk) series reading result self.new.state (D.meaning self.new.disk) }
-        ensures moves { Chain D.moves self.old.disk (tries (K.numbering self.old.kind) self.old.state (D.meaning self.old.disk) (one series reading)) self.new.disk }
+        ensures rules { let k = K.numbering self.old.kind in
+            let m = D.meaning self.old.disk in
+            Gave k self.old.state m series reading result self.new.state (D.meaning self.new.disk) }
+        ensures moves { let k = K.numbering self.old.kind in
+            let tried = tries k self.old.state (D.meaning self.old.disk) (one series reading) in
+            Chain D.moves self.old.disk tried self.new.disk }
     {
         let up = match &mut self.state {
             State::Up(up) => up,
@@ -76,7 +80,9 @@ impl<D: Disk, K: Kind> Server<D, K> {
     pub fn cut(&mut self, tear: u64, supply: u64) -> Result<Sequence, ServerFault>
         ensures kind { self.new.kind ≡ self.old.kind }
         ensures moves { D.moves.cuts self.old.disk tear supply self.new.disk }
-        ensures rules { WasCut (K.numbering self.old.kind) (D.meaning self.old.disk) supply result self.new.state (D.meaning self.new.disk) }
+        ensures rules { let k = K.numbering self.old.kind in
+            let m = D.meaning self.old.disk in
+            WasCut k m supply result self.new.state (D.meaning self.new.disk) }
     {
         self.disk.cut(tear, supply);
         let recovered = Ring::recover(&self.disk, self.kind.tag(), self.kind.top());

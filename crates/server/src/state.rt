@@ -1,10 +1,9 @@
 // Whether the server is up, and what it has in hand.
-ghost use Rattle.std.specs.Prelude.{◌≡◌, [], nat_lt, cond, IfOk};
+ghost use Rattle.std.specs.Prelude.{◌≡◌, nat_lt, IfOk};
 ghost use Rattle.ring.specs.Operations.{Chain};
 ghost use Rattle.ring.specs.Ring.{Agrees};
-ghost use Rattle.ring.specs.Search.{refusal};
 ghost use Rattle.ring.specs.Token.{block_in, draw, fill, after_draw};
-ghost use Rattle.server.specs.Rules.{awake, with_blocks, is_fatal, tries_for, Ready, Took};
+ghost use Rattle.server.specs.Rules.{awake, with_blocks, is_fatal, ready_tries, reserve_tries, Ready, Took};
 
 use disk::Disk;
 use record::Rank;
@@ -60,9 +59,11 @@ impl Up {
     ) -> Result<(), RingFault>
         requires agrees { Agrees self.old.ring (D.meaning disk.old) }
         requires ends { KnowsEnds self.old }
-        ensures took { Took self.old (D.meaning disk.old) series end result self.new (D.meaning disk.new) }
+        ensures took { let m = D.meaning disk.old in
+            Took self.old m series end result self.new (D.meaning disk.new) }
         ensures ends { IfOk result (λ _. KnowsEnds self.new) }
-        ensures moves { Chain D.moves disk.old (tries_for self.old.ring (D.meaning disk.old) series end (refusal self.old.ring.format self.old.ring.known.top.0 series end)) disk.new }
+        ensures moves { let ring = self.old.ring in
+            Chain D.moves disk.old (reserve_tries ring (D.meaning disk.old) series end) disk.new }
     {
         let reserved = self.ring.reserve(disk, series, end)?;
         self.take(reserved);
@@ -79,9 +80,13 @@ impl Up {
     ) -> Result<(), RingFault>
         requires agrees { Agrees self.old.ring (D.meaning disk.old) }
         requires ends { KnowsEnds self.old }
-        ensures ready { Ready (nat_lt rank.0 (block_in self.old.blocks series).end.0) self.old (D.meaning disk.old) series end result self.new (D.meaning disk.new) }
+        ensures ready { let ends_above = nat_lt rank.0 (block_in self.old.blocks series).end.0 in
+            let m = D.meaning disk.old in
+            Ready ends_above self.old m series end result self.new (D.meaning disk.new) }
         ensures ends { IfOk result (λ _. KnowsEnds self.new) }
-        ensures moves { Chain D.moves disk.old (cond (nat_lt rank.0 (block_in self.old.blocks series).end.0) [] (tries_for self.old.ring (D.meaning disk.old) series end (refusal self.old.ring.format self.old.ring.known.top.0 series end))) disk.new }
+        ensures moves { let ends_above = nat_lt rank.0 (block_in self.old.blocks series).end.0 in
+            let m = D.meaning disk.old in
+            Chain D.moves disk.old (ready_tries ends_above self.old.ring m series end) disk.new }
     {
         if rank < self.blocks.end(series) {
             return Ok(());

@@ -61,7 +61,8 @@ each_is (Torn d) (Torn d') (put i bytes) e =
       ap (means before) e
           ∙ of_either (means before) (succeeds (torn_disk d) i) (put_in latest_write (stands d) i bytes) (stands d)
           ∙ ap
-          (λ (ys : List (List ℕ)). cond (succeeds (torn_disk d) i) (record { reading = set xs i bytes; kept = ys; supply = d.supply - 1; beyond = (stands d).beyond }) (torn_disk d))
+          (λ (ys : List (List ℕ)). cond (succeeds (torn_disk d) i)
+          (record { reading = set xs i bytes; kept = ys; supply = d.supply - 1; beyond = (stands d).beyond }) (torn_disk d))
           kept,
     )
 each_is (Faithful d) (Faithful d') (settle i) e = (

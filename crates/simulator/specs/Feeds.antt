@@ -20,8 +20,8 @@ pub record IsBegun (memory : List ℕ) (f : Feed) : Type 0 where
   pub served : RunServed f.simulator.stage []
   pub holds : Holds f.partial []
 
--- lines are taken: the run stands after them, they are printed, and the server has answered the calls
--- that were made for them
+-- lines are taken: the run stands after them, they are printed, and the server has answered the
+-- calls that were made for them
 pub record Takes (s : Simulator) (print : List ℕ) (rows : List Row) (s' : Simulator)
     (print' : List ℕ) : Type 0 where
   pub run : run_of s' ≡ last_run (run_of s) rows
@@ -35,14 +35,16 @@ abbrev pub held_row : Feed → Row
 held_row f = row_of (run_of f.simulator) (held f.partial)
 
 -- it is taken
-pub record Answers (f : Feed) (print : List ℕ) (flow : Flow) (f' : Feed) (print' : List ℕ) : Type 0 where
+pub record Answers (f : Feed) (print : List ℕ) (flow : Flow) (f' : Feed) (print' : List ℕ)
+    : Type 0 where
   pub takes : Takes f.simulator print (held_row f ∷ []) f'.simulator print'
   pub flows : flow ≡ flow_after (held_row f).done.answer
   pub empty : held f'.partial ≡ []
 
--- a piece was read, up to what is left of it: whatever follows, the lines are those that were taken and
--- those of what is left
-pub record Reads (f : Feed) (line piece print : List ℕ) (f' : Feed) (left print' : List ℕ) : Type 0 where
+-- a piece was read, up to what is left of it: whatever follows, the lines are those that were taken
+-- and those of what is left
+pub record Reads (f : Feed) (line piece print : List ℕ) (f' : Feed) (left print' : List ℕ)
+    : Type 0 where
   pub rows : List Row
   pub takes : Takes f.simulator print rows f'.simulator print'
   pub unended : List ℕ
@@ -53,7 +55,8 @@ pub record Reads (f : Feed) (line piece print : List ℕ) (f' : Feed) (left prin
       ≡ rows ++ rows_of (lines_from (left ++ more) unended) (run_of f'.simulator)
 
 -- the run has stopped in a piece: whatever follows, the lines are those that were taken
-pub record Stopped (f : Feed) (line piece print : List ℕ) (f' : Feed) (print' : List ℕ) : Type 0 where
+pub record Stopped (f : Feed) (line piece print : List ℕ) (f' : Feed) (print' : List ℕ)
+    : Type 0 where
   pub rows : List Row
   pub takes : Takes f.simulator print rows f'.simulator print'
   pub all : (more : List ℕ) → rows_of (lines_from (piece ++ more) line) (run_of f.simulator) ≡ rows

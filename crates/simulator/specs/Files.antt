@@ -63,8 +63,8 @@ run_of_file memory file = last_run (begun memory) (rows_of (lines_of file) (begu
 abbrev pub turns_of_file : List ℕ → List ℕ → List Turn
 turns_of_file memory file = turns_of_lines (lines_of file) (begun memory)
 
--- a request file comes to a stage whose server has answered these calls: with their answers they are those
--- of a history that obeys the laws
+-- a request file comes to a stage whose server has answered these calls: with their answers they are
+-- those of a history that obeys the laws
 pub record FileServed (memory file : List ℕ) : Type 0 where
   pub stage : Stage
   pub comes_to : view stage ≡ (run_of_file memory file).view

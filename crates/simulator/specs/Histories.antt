@@ -15,9 +15,10 @@ use Rattle.simulator.specs.declared.stage.Left.TheVariants as left
 use Rattle.simulator.specs.declared.stage.Stage.{Stage}
 use Rattle.simulator.specs.declared.stage.Stage.TheVariants as stage
 
--- a server that was put together on a disk without records has answered these calls: they are those of a
--- history that it was reached by, and that obeys the laws
-pub record HasServed (kind : AnyKind) (state : State) (disk : Device) (turns : List Turn) : Type 0 where
+-- a server that was put together on a disk without records has answered these calls: they are those
+-- of a history that it was reached by, and that obeys the laws
+pub record HasServed (kind : AnyKind) (state : State) (disk : Device) (turns : List Turn)
+    : Type 0 where
   pub first : Device
   pub without : WithoutRecords (meaning_of first)
   pub history : List Event

@@ -23,8 +23,8 @@ abbrev pub ended_if : Bool → List ℕ → (List ℕ → List (List ℕ)) → L
 ended_if true line next = line ∷ next []
 ended_if false line next = next line
 
--- bytes cut into lines, the first of which has begun with other bytes: each has its line feed, but for a
--- last one without it
+-- bytes cut into lines, the first of which has begun with other bytes: each has its line feed, but
+-- for a last one without it
 unfoldable pub lines_from : List ℕ → List ℕ → List (List ℕ)
 lines_from [] [] = []
 lines_from [] (b ∷ line) = (b ∷ line) ∷ []

@@ -45,7 +45,8 @@ reserved_by make u m s first n end given (Some fault) =
 reserved_by make u m s first n end given None =
     after_reserving u s first n given
     (after_tries make m (tried u.ring.format (plan u.ring.format 7 s end m.reading) m.supply))
-    (outcome (reservation u.ring.format m.reading s (record { 0 = end })) (plan u.ring.format 7 s end m.reading) m.supply)
+    (outcome (reservation u.ring.format m.reading s (record { 0 = end }))
+    (plan u.ring.format 7 s end m.reading) m.supply)
 
 -- a call on a server that is up, by what it wants
 abbrev pub decided : {A : Type 0} → (ℕ → ℕ → ℕ → Option Range → A) → Make → Up → Meaning → Wish → LeftBy A

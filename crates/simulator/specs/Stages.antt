@@ -14,9 +14,9 @@ use Rattle.simulator.specs.declared.stage.Left.TheVariants as left
 use Rattle.simulator.specs.declared.stage.Stage.{Stage}
 use Rattle.simulator.specs.declared.stage.Stage.TheVariants as stage
 
--- the line for the device is to come: the memory; the line for the kind: the disk and the memory past it; the line for the
--- box: the lease too; requests and cuts: the kind and the server's state; or the run has ended: the kind of its server, if it
--- had one, and the memory that is left
+-- the line for the device is to come: the memory; the line for the kind: the disk and the memory past
+-- it; the line for the box: the lease too; requests and cuts: the kind and the server's state; or the
+-- run has ended: the kind of its server, if it had one, and the memory that is left
 pub data View : Type 0 where
   awaits_disk : List ℕ → View
   awaits_kind : Make → Meaning → List ℕ → View

@@ -52,10 +52,12 @@ denied denial v = record { answer = Err denial; after = v }
 abbrev pub set_up : View → Done
 set_up v = record { answer = Ok Set; after = v }
 
--- the device: the first 32 bytes for each sector are cleared, the rest of the memory is spare, and the supply is 1,000,000
+-- the device: the first 32 bytes for each sector are cleared, the rest of the memory is spare, and
+-- the supply is 1,000,000
 abbrev pub with_make : List ℕ → ℕ → Option Make → Done
 with_make memory n None = denied NoDevice (awaits_disk memory)
-with_make memory n (Some make) = set_up (awaits_kind make (cleared n 1000000) (drop (32 * n) memory))
+with_make memory n (Some make) =
+    set_up (awaits_kind make (cleared n 1000000) (drop (32 * n) memory))
 
 -- a sector count that is out of range, or a memory that is too short, is told ahead of a device that is not there
 abbrev pub opened : List ℕ → Fields → Done

@@ -107,7 +107,8 @@ fn split(memory: &mut [u8], count: usize) -> (&mut [u8], &mut [u8])
     memory.split_at_mut(count)
 }
 
-// A new disk of so many sectors over the first bytes of a memory. The bytes past them are handed back as they are.
+// A new disk of so many sectors over the first bytes of a memory. The bytes past them are handed
+// back as they are.
 pub(crate) fn open<'a>(
     make: Make,
     memory: &'a mut [u8],

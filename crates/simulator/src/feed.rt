@@ -49,7 +49,8 @@ impl<'a> Feed<'a> {
 
     // Takes the line that is held, and appends its print. Breaks where the run stops.
     fn answer(&mut self, print: &mut Vec<u8>) -> Result<ControlFlow<()>, AllocError>
-        ensures { IfOk result (λ flow. Answers self.old print.old.items flow self.new print.new.items) }
+        ensures { IfOk result (λ flow.
+            Answers self.old print.old.items flow self.new print.new.items) }
     {
         let mut columns = [0; PRINT_BYTES];
         let answer = self.simulator.take(self.partial.line(), &mut columns);
@@ -58,8 +59,8 @@ impl<'a> Feed<'a> {
         Ok(flow_after(answer))
     }
 
-    // Takes the lines that end in a piece, appends their prints, and holds the last one where it has not
-    // ended. Breaks where the run stops.
+    // Takes the lines that end in a piece, appends their prints, and holds the last one where it has
+    // not ended. Breaks where the run stops.
     pub fn feed(&mut self, piece: &[u8], print: &mut Vec<u8>) -> Result<ControlFlow<()>, AllocError>
         ensures { IfOk result (λ flow. MatchControlFlow flow
             (λ _. GoesOn self.old piece.now print.old.items self.new [] print.new.items)

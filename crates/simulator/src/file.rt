@@ -6,10 +6,11 @@ use crate::feed::Feed;
 use std::alloc::AllocError;
 use std::ops::ControlFlow;
 
-// Takes the lines of a file over a memory, and appends what is printed. Whatever the file, the calls that
-// are made for its lines are those of a history that obeys the laws.
+// Takes the lines of a file over a memory, and appends what is printed. Whatever the file, the calls
+// that are made for its lines are those of a history that obeys the laws.
 pub fn print_file(memory: &mut [u8], file: &[u8], print: &mut Vec<u8>) -> Result<(), AllocError>
-    ensures prints { OnOk result (print.new.items ≡ print.old.items ++ print_of_file memory.old file.now) }
+    ensures prints { OnOk result
+        (print.new.items ≡ print.old.items ++ print_of_file memory.old file.now) }
     ensures serves { OnOk result (FileServed memory.old file.now) }
 {
     let mut feed = Feed::new(memory);

@@ -64,7 +64,8 @@ fn cut(server: &mut Server<Device<'_>, AnyKind>, fields: Fields) -> Result<Answe
         (HasServed server.new.kind server.new.state server.new.disk) }
     ensures cuts { (spare : List ℕ) →
         done_on result server.new.kind server.new.state server.new.disk spare
-        ≡ cut_off (make_of server.old.disk) server.old.kind (meaning_of server.old.disk) spare fields }
+        ≡ cut_off (make_of server.old.disk) server.old.kind
+        (meaning_of server.old.disk) spare fields }
 {
     server
         .cut(fields.a, fields.b)
@@ -90,7 +91,8 @@ impl<'a> Simulator<'a> {
     pub fn take(&mut self, line: &[u8], print: &mut [u8]) -> Result<Answer, Denial>
         ensures takes { record { answer = result; run = run_of self.new; print = print.new }
             ≡ taken_by (run_of self.old) line.now print.old }
-        ensures serves { Extends (RunServed self.old.stage) (turn_in line.now result) (RunServed self.new.stage) }
+        ensures serves { Extends (RunServed self.old.stage) (turn_in line.now result)
+            (RunServed self.new.stage) }
         ensures memory { stage_bytes self.new.stage ≡ memory_of (view self.new.stage) }
         ensures numbers { NumbersInColumns }
     {
@@ -106,7 +108,8 @@ impl<'a> Simulator<'a> {
     // What a line that is counted does, and the end of the run where it brings that.
     fn answer(&mut self, line: &[u8]) -> Result<Answer, Denial>
         ensures count { self.new.taken ≡ self.old.taken }
-        ensures serves { Extends (RunServed self.old.stage) (turn_in line.now result) (RunServed self.new.stage) }
+        ensures serves { Extends (RunServed self.old.stage) (turn_in line.now result)
+            (RunServed self.new.stage) }
         ensures answers { record { answer = result; after = view self.new.stage }
             ≡ ended_by (numbered self.old.taken (view self.old.stage) line.now) }
     {
@@ -123,7 +126,8 @@ impl<'a> Simulator<'a> {
     // by value takes 14% longer a line.
     fn step(&mut self, line: &[u8]) -> Result<Answer, Denial>
         ensures count { self.new.taken ≡ self.old.taken }
-        ensures serves { Extends (RunServed self.old.stage) (turn_in line.now result) (RunServed self.new.stage) }
+        ensures serves { Extends (RunServed self.old.stage) (turn_in line.now result)
+            (RunServed self.new.stage) }
         ensures steps { record { answer = result; after = view self.new.stage }
             ≡ step_of (view self.old.stage) line.now }
     {

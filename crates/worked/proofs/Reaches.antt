@@ -1,5 +1,6 @@
 -- The worked history is reached: antt computes what each call answers and leaves.
-use Rattle.std.proofs.Common.{◌≡◌, ℕ, zero, suc, ◌+◌, ◌<◌, false, List, [], ◌∷◌, length, set, replicate, Some, None, Option, Ok, Err, Result, sym, refl, ◌∙◌, subst, inl, arith, lit<, rules}
+use Rattle.std.proofs.Common.{◌≡◌, ℕ, zero, suc, ◌+◌, ◌<◌, false, List, [], ◌∷◌, length, set, replicate, Some, None, Option, Ok, Err, Result, sym}
+use Rattle.std.proofs.Common.{refl, ◌∙◌, subst, inl, arith, lit<, rules}
 use Rattle.record.specs.Crc.{crc, register, feed, shifts, shift}
 use Rattle.record.specs.Sector.{sound, little, content, encoded, body, bytes_of, parts, all_zero}
 use Rattle.record.specs.declared.sector.Format.{Format}
@@ -23,7 +24,8 @@ use Rattle.server.specs.declared.fault.ServerFault.{ServerFault}
 use Rattle.server.specs.declared.state.State.{State}
 use Rattle.server.specs.declared.state.State.TheVariants.{Up as Awake, Down}
 use Rattle.server.specs.declared.state.Up.{Up}
-use Rattle.worked.specs.Worked.{one_by_one, start, written, with_one, with_two, with_part, after_first, after_second, after_cut, after_third, stop, first, second, power_cut, Torn, torn_meaning, torn_moves, cleared_torn, WorkedHistory, TornInside}
+use Rattle.worked.specs.Worked.{one_by_one, start, written, with_one, with_two, with_part, after_first, after_second, after_cut, after_third, stop}
+use Rattle.worked.specs.Worked.{first, second, power_cut, Torn, torn_meaning, torn_moves, cleared_torn, WorkedHistory, TornInside}
 
 -- the kind is lawful
 pub lawful : LawfulKind one_by_one
@@ -48,7 +50,8 @@ not_some x e = let z : ◌≡◌ {A = ℕ} 0 1 = cc in omega arith
 
 -- a reservation that nothing refuses
 reserving_by :
-    {A : Type 0} {u : Up} {m : Meaning} {s first n : ℕ} {claimed : Range} {given : A} {r : Result A ServerFault} {after : State} {m' : Meaning} (ring : Ring) (answer : Result Reserved RingFault) →
+    {A : Type 0} {u : Up} {m : Meaning} {s first n : ℕ} {claimed : Range} {given : A} {r : Result A ServerFault} {after : State} {m' : Meaning}
+    (ring : Ring) (answer : Result Reserved RingFault) →
     None ≡ refusal u.ring.format u.ring.known.top.0 s (record { 0 = claimed.end }) →
     Ended u.ring.format s (record { 0 = claimed.end }) m answer ring m' →
     Answered u s first n given ring answer r after → Reserving u m s first n claimed given r after m'
