@@ -3,7 +3,7 @@ use Rattle.std.proofs.Common.{◌≡◌, ℕ, None, Ok, Err, Option, Result, Mat
 use Rattle.record.specs.declared.numbers.Rank.{Rank}
 use Rattle.disk.specs.Meaning.{Meaning}
 use Rattle.disk.specs.declared.fault.DiskFault.{DiskFault}
-use Rattle.ring.specs.Ring.{top, Agrees}
+use Rattle.ring.specs.Ring.{Agrees}
 use Rattle.ring.specs.Search.{MayReserve, refusal, admit}
 use Rattle.ring.specs.Faults.{with_work}
 use Rattle.ring.specs.declared.fault.Interrupted.{Interrupted as Stop}

@@ -3,7 +3,7 @@ use Rattle.std.proofs.Common.{◌≡◌, ℕ, ◌^◌, ◌<◌, ◌≤◌, ◌�
 use Rattle.record.specs.declared.numbers.Rank.{Rank}
 use Rattle.record.specs.declared.sector.Content.{Content}
 use Rattle.record.specs.declared.sector.Record.{Record}
-use Rattle.ring.specs.Ring.{top, carry_of, live_among, live_of, note, next_known}
+use Rattle.ring.specs.Ring.{carry_of, live_among, live_of, note, next_known}
 use Rattle.ring.specs.declared.known.Known.{Known}
 use Rattle.ring.proofs.Knows.{left, left-set}
 

@@ -18,7 +18,11 @@ done (Err fault) = Err fault
 -- a reservation whose record was written into a sector, with the first rank that is newly reserved
 abbrev pub written_in : Record → Rank → ℕ → Written
 written_in entry start sector =
-    record { claim = record { series = entry.series; end = entry.end }; start = start; sector = sector }
+    record {
+      claim = record { series = entry.series; end = entry.end };
+      start = start;
+      sector = sector;
+    }
 
 -- it is confirmed, or comes back with the fault
 abbrev pub confirm : Written → Result (Unit {0}) DiskFault → Result Reserved Unconfirmed

@@ -19,8 +19,8 @@ pub struct Known {
     pub lives: [Live; 8],
 }
 
-// What a record is to claim: the series, and its new end. No rank is drawn from it, but from blocks that were filled with a
-// `Reserved`, which is flushed.
+// What a record is to claim: the series, and its new end. No rank is drawn from it, but from blocks that were filled
+// with a `Reserved`, which is flushed.
 #[derive(Clone, Copy)]
 pub(crate) struct Claim {
     pub(crate) series: u8,
