@@ -1,7 +1,9 @@
 // Reads request lines from standard input, and prints what the simulator makes of each.
 #![tactic(auto)]
 
-ghost use Rattle.std.specs.Prelude.{◌≤◌, length, IfOk};
+ghost use Rattle.std.specs.Prelude.{◌≤◌, length, IfOk, OnOk};
+ghost use Rattle.std.specs.Io.KnownBytes.{Appends, ReadConsumes};
+ghost use Rattle.simulate.specs.Pieces.{TakesPiece, TakesInput};
 
 use simulator::Feed;
 use std::io::{self, BufWriter, ErrorKind, Read, Write};
@@ -21,29 +23,47 @@ struct Session<'a, W> {
 }
 
 impl<W: Write> Session<'_, W> {
-    // Takes the lines of one more piece of the input, at its end the last one too. Breaks where there is no more to do.
-    fn take_piece<R: Read>(
-        &mut self,
-        input: &mut R,
-        buffer: &mut [u8],
-    ) -> anyhow::Result<ControlFlow<()>> {
+    // Takes the lines of a piece; of an empty one, which tells the end of the input, the line that is held.
+    // Breaks where there is no more to do.
+    fn take(&mut self, piece: &[u8]) -> anyhow::Result<ControlFlow<()>>
+        ensures takes { IfOk result (λ flow.
+            TakesPiece self.old.feed piece.now flow self.new.feed self.new.print.items) }
+        ensures writes { OnOk result
+            (Appends (W.contents self.old.out) (W.contents self.new.out) self.new.print.items) }
+    {
         self.print.clear();
-        let flow = match read_piece(input, buffer)? {
-            0 => {
-                self.feed.finish(&mut self.print)?;
-                ControlFlow::Break(())
-            }
-            count => self.feed.feed(&buffer[..count], &mut self.print)?,
+        let flow = if piece.is_empty() {
+            self.feed.finish(&mut self.print)?;
+            ControlFlow::Break(())
+        } else {
+            self.feed.feed(piece, &mut self.print)?
         };
         self.out.write_all(&self.print)?;
         self.out.flush()?;
         Ok(flow)
     }
+
+    // Takes one more piece of the input.
+    fn take_piece<R: Read>(
+        &mut self,
+        input: &mut R,
+        buffer: &mut [u8],
+    ) -> anyhow::Result<ControlFlow<()>>
+        ensures takes { IfOk result (λ flow.
+            TakesInput self.old.feed buffer.new flow self.new.feed self.new.print.items
+            (R.remaining input.old) (R.remaining input.new)) }
+        ensures writes { OnOk result
+            (Appends (W.contents self.old.out) (W.contents self.new.out) self.new.print.items) }
+    {
+        let count = read_piece(input, buffer)?;
+        self.take(&buffer[..count])
+    }
 }
 
 // The number of bytes that one read gave; a read that a signal broke off is tried again.
 fn read_piece<R: Read>(input: &mut R, buffer: &mut [u8]) -> io::Result<usize>
-    ensures { IfOk result (λ count. count ≤ length buffer.old) }
+    ensures bound { IfOk result (λ count. count ≤ length buffer.new) }
+    ensures bytes { ReadConsumes (R.remaining input.old) (R.remaining input.new) result buffer.new }
 {
     // A bound that is never met, since a loop without one would be allowed to wait for ever.
     for _ in 0..u64::MAX {
@@ -53,7 +73,7 @@ fn read_piece<R: Read>(input: &mut R, buffer: &mut [u8]) -> io::Result<usize>
             Err(error) => return Err(error),
         }
     }
-    Ok(0)
+    Err(ErrorKind::Interrupted.into())
 }
 
 // Reads up to the end of the input, or to the end of the run.

@@ -1,0 +1,2 @@
+-- What the program's session promises of a piece of its input.
+pub mod Pieces
