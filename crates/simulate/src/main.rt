@@ -1,11 +1,12 @@
 // Reads request lines from standard input, and prints what the simulator makes of each.
 #![tactic(auto)]
 
-ghost use Rattle.std.specs.Prelude.{◌≤◌, length, IfOk, OnOk};
+ghost use Rattle.std.specs.Prelude.{◌≡◌, ◌≤◌, length, IfOk, OnOk};
 ghost use Rattle.std.specs.Io.KnownBytes.{Appends, ReadConsumes};
 ghost use Rattle.simulate.specs.Pieces.{TakesPiece, TakesInput};
 
 use simulator::Feed;
+use std::alloc::AllocError;
 use std::io::{self, BufWriter, ErrorKind, Read, Write};
 use std::ops::ControlFlow;
 
@@ -23,27 +24,22 @@ struct Session<'a, W> {
 }
 
 impl<W: Write> Session<'_, W> {
-    // Takes the lines of a piece; of an empty one, which tells the end of the input, the line that is held.
+    // Prints the lines of a piece; of an empty one, which tells the end of the input, the line that is held.
     // Breaks where there is no more to do.
-    fn take(&mut self, piece: &[u8]) -> anyhow::Result<ControlFlow<()>>
-        ensures takes { IfOk result (λ flow.
+    fn print_piece(&mut self, piece: &[u8]) -> Result<ControlFlow<()>, AllocError>
+        ensures prints { IfOk result (λ flow.
             TakesPiece self.old.feed piece.now flow self.new.feed self.new.print.items) }
-        ensures writes { OnOk result
-            (Appends (W.contents self.old.out) (W.contents self.new.out) self.new.print.items) }
+        ensures out { self.new.out ≡ self.old.out }
     {
         self.print.clear();
-        let flow = if piece.is_empty() {
+        if piece.is_empty() {
             self.feed.finish(&mut self.print)?;
-            ControlFlow::Break(())
-        } else {
-            self.feed.feed(piece, &mut self.print)?
-        };
-        self.out.write_all(&self.print)?;
-        self.out.flush()?;
-        Ok(flow)
+            return Ok(ControlFlow::Break(()));
+        }
+        self.feed.feed(piece, &mut self.print)
     }
 
-    // Takes one more piece of the input.
+    // Takes one more piece of the input, and writes what is printed.
     fn take_piece<R: Read>(
         &mut self,
         input: &mut R,
@@ -56,7 +52,10 @@ impl<W: Write> Session<'_, W> {
             (Appends (W.contents self.old.out) (W.contents self.new.out) self.new.print.items) }
     {
         let count = read_piece(input, buffer)?;
-        self.take(&buffer[..count])
+        let flow = self.print_piece(&buffer[..count])?;
+        self.out.write_all(&self.print)?;
+        self.out.flush()?;
+        Ok(flow)
     }
 }
 
