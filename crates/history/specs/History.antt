@@ -62,7 +62,8 @@ end_in k start m s = end_of (format k start) m.reading s
 -- next, which starts anew at each cut: the successor of the newest rank that the series has given since, and while it has given
 -- none, its end on the disk that the cut left (before any cut, on the first disk)
 abbrev pub next_by : Numbering → Meaning → ℕ → Told → ℕ → ℕ
-next_by k start s (gave t reading n xs) was = if t == s then max was (floor_of k reading) + n else was
+next_by k start s (gave t reading n xs) was =
+    if t == s then max was (floor_of k reading) + n else was
 next_by k start s (woke m) was = end_in k start m s
 next_by k start s tells was = was
 
@@ -76,7 +77,8 @@ rank_of k start s reading past = max (next k start s past) (floor_of k reading)
 
 -- the successor of the newest rank that the series has given, cuts or not; 0 before the first
 abbrev pub after_by : Numbering → ℕ → Told → ℕ → ℕ → ℕ
-after_by k s (gave t reading n xs) next was = if t == s then max next (floor_of k reading) + n else was
+after_by k s (gave t reading n xs) next was =
+    if t == s then max next (floor_of k reading) + n else was
 after_by k s tells next was = was
 
 abbrev pub after_last : Numbering → Meaning → ℕ → List Event → ℕ
@@ -211,7 +213,9 @@ stood k start s end supply next_cut steps =
 abbrev pub reserved_by :
     Numbering → Meaning → ℕ → ℕ → Option Meaning → Wish → List Step → List Range
 reserved_by k start s supply next_cut (draws t first n (Some claimed)) (step ∷ steps) =
-    if t == s && stood k start s claimed.end supply next_cut (step ∷ steps) then claimed ∷ [] else []
+    if t == s && stood k start s claimed.end supply next_cut (step ∷ steps)
+    then claimed ∷ []
+    else []
 reserved_by k start s supply next_cut want steps = []
 
 -- the reservation of a series that a call made, if it stands; next_cut is what the first cut after it left, if there was one

@@ -39,7 +39,8 @@ Takes moves meaning k state d (Cut tear supply) d' = moves.cuts d tear supply d'
 -- what calls on a disk from the first on make, by its own relations
 module _ {D : Type 0} (moves : Moves D) (meaning : D → Meaning) (k : Numbering) (first : D) where
   -- one call more
-  pub record Made (past : List Event) (call : Call) (answer : Answer) (state : State) (d : D) : Type 0 where
+  pub record Made (past : List Event) (call : Call) (answer : Answer) (state : State) (d : D)
+      : Type 0 where
     pub event : Event
     pub asked : call_of event ≡ call
     pub answered : answer_of event ≡ answer
@@ -61,7 +62,8 @@ module _ {D : Type 0} (moves : Moves D) (meaning : D → Meaning) (k : Numbering
 
   -- the calls of these turns, made: each is answered, the history with their events is reached, and obeys the laws where it
   -- began on a disk without records
-  pub record Served (past : List Event) (turns after : List Turn) (state : State) (d : D) : Type 0 where
+  pub record Served (past : List Event) (turns after : List Turn) (state : State) (d : D)
+      : Type 0 where
     pub events : List Event
     pub asked : map (λ turn. turn.call) after ≡ map (λ turn. turn.call) turns
     pub answered : after ≡ turns_of events
@@ -78,16 +80,17 @@ module _ {D : Type 0} (moves : Moves D) (meaning : D → Meaning) (k : Numbering
 
 -- all calls since a server was put together on a disk that meant this at first: they obey the laws, and the disk went over by
 -- what they ask for
-module _ {D : Type 0} (moves : Moves D) (meaning : D → Meaning) (k : Numbering) (start : Meaning) where
-  pub record RanFrom (turns after : List Turn) (state : State) (d : D) : Type 0 where
-    pub first : D
-    pub began : meaning first ≡ start
-    pub history : List Event
-    pub asked : map (λ turn. turn.call) after ≡ map (λ turn. turn.call) turns
-    pub answered : after ≡ turns_of history
-    pub reached : Reached moves meaning k first history state d
-    pub obeys : Obeys k start history
-    pub goes : GoesOver moves meaning k first history d
+module _ {D : Type 0} (moves : Moves D) (meaning : D → Meaning) (k : Numbering) (start : Meaning)
+  where
+    pub record RanFrom (turns after : List Turn) (state : State) (d : D) : Type 0 where
+      pub first : D
+      pub began : meaning first ≡ start
+      pub history : List Event
+      pub asked : map (λ turn. turn.call) after ≡ map (λ turn. turn.call) turns
+      pub answered : after ≡ turns_of history
+      pub reached : Reached moves meaning k first history state d
+      pub obeys : Obeys k start history
+      pub goes : GoesOver moves meaning k first history d
 
 -- how a disk over memory stands after an operation that is tried
 abbrev pub stood_after_try : {H : Type 0} → Holding H → Stands H → Op → Stands H
@@ -112,7 +115,8 @@ module _ {H : Type 0} (w : Holding H) (k : Numbering) (sectors supply : ℕ) whe
 
   pub record RanBlank (turns after : List Turn) (state : State) (d : MemoryDisk H) : Type 0 where
     pub ran :
-        RanFrom (memory_moves w) (memory_disk w.before) k (cleared sectors supply) turns after state d
+        RanFrom (memory_moves w) (memory_disk w.before) k (cleared sectors supply)
+        turns after state d
     pub exact : stands d ≡ stood_after w k (cleared sectors supply) blank_stand ran.history
 
   -- and each identifier that they gave obeys hi/lo

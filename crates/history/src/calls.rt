@@ -67,7 +67,8 @@ pub fn serve<D: Disk, K: Kind>(server: &mut Server<D, K>, turns: &mut [Turn])
 // Puts a server together on a disk, makes the calls of the turns in their order, and gives the server back.
 pub fn run<D: Disk, K: Kind>(disk: D, kind: K, turns: &mut [Turn]) -> Server<D, K>
     ensures kind { result.kind ≡ kind }
-    ensures promise { Ran D.moves D.meaning (K.numbering kind) disk turns.old turns.new result.state result.disk }
+    ensures promise { let k = K.numbering kind in
+        Ran D.moves D.meaning k disk turns.old turns.new result.state result.disk }
 {
     let mut server = Server::new(disk, kind);
     serve(&mut server, turns);

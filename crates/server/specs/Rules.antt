@@ -109,7 +109,8 @@ ring_refusal ring s end = refusal ring.format ring.known.top.0 s end
 
 module _ (ring : Ring) (m : Meaning) (s : ℕ) (end : Rank) where
   -- a call of the ring's reserve: refused with nothing touched, or done as its plan asks
-  pub record Reserves (answer : Result Reserved RingFault) (ring' : Ring) (m' : Meaning) : Type 0 where
+  pub record Reserves (answer : Result Reserved RingFault) (ring' : Ring) (m' : Meaning)
+      : Type 0 where
     pub refused :
         (fault : RingFault) → ring_refusal ring s end ≡ Some fault →
         (answer ≡ Err fault) × (ring' ≡ ring) × (m' ≡ m)

@@ -232,7 +232,8 @@ takes_more {s} {t} {u} {print} {print'} {print''} {rows} {more} first second =
     }
 
 -- a run over a memory takes lines, and then more
-module _ {memory print print' printed : List ℕ} {rows more : List Row} {s s' : Simulator} (so_far : HasTaken memory rows printed s) (takes : TakesRows s print more s' print') where
+module _ {memory print print' printed : List ℕ} {rows more : List Row} {s s' : Simulator}
+    (so_far : HasTaken memory rows printed s) (takes : TakesRows s print more s' print') where
   pub taken_on : HasTaken memory (rows ++ more) (printed ++ flat_map print_of more) s'
   taken_on =
       record {

@@ -83,7 +83,8 @@ Ends f print f' print' =
 
 -- a run over a memory has taken these lines: it stands after them, they are printed, and its server has
 -- answered the calls that were made for them
-pub record HasTaken (memory : List ℕ) (rows : List Row) (print : List ℕ) (s : Simulator) : Type 0 where
+pub record HasTaken (memory : List ℕ) (rows : List Row) (print : List ℕ) (s : Simulator)
+    : Type 0 where
   pub run : run_of s ≡ last_run (first_run memory) rows
   pub prints : print ≡ flat_map print_of rows
   pub served : RunServed s.stage (filter_map turn_of rows)

@@ -117,7 +117,8 @@ settles m p e = record { reads = refl; keeps = refl; spends = e; leaves = refl }
 
 -- record 1 is written and flushed
 ended_first : Ended f 2 (record { 0 = 1 }) start (Ok (reserved 0 1)) (ring_of with_one) after_first
-unfolding plan performed outcome live live_below top top_below foreign_below slot content sound little crc register feed shifts shift encoded body bytes_of parts all_zero
+unfolding plan performed outcome live live_below top top_below foreign_below slot content
+    sound little crc register feed shifts shift encoded body bytes_of parts all_zero
 ended_first =
     record {
       agrees = recovers_agrees f after_first recovers_one;
@@ -143,7 +144,8 @@ reached_first =
 
 -- record 2 is written, and its flush goes dark
 ended_second : Ended f 2 (record { 0 = 2 }) after_first (Err stop) (ring_of with_two) after_second
-unfolding plan performed outcome live live_below top top_below foreign_below slot content sound little crc register feed shifts shift encoded body bytes_of parts all_zero
+unfolding plan performed outcome live live_below top top_below foreign_below slot content
+    sound little crc register feed shifts shift encoded body bytes_of parts all_zero
 ended_second =
     record {
       agrees = recovers_agrees f after_second recovers_two;
@@ -170,7 +172,8 @@ half = record { sector = 2; old = replicate 32 0 }
 cut_left : Cut after_second 9 after_cut
 cut_left =
     subst
-    (λ (left : List (List ℕ)). Cut (record { reading = with_two; kept = before (Some half) with_two; supply = 0; beyond = [] }) 9 (record { reading = left; kept = left; supply = 9; beyond = [] }))
+    (λ (left : List (List ℕ)). Cut (record { reading = with_two; kept = before (Some half) with_two; supply = 0; beyond = [] }) 9
+    (record { reading = left; kept = left; supply = 9; beyond = [] }))
     torn_inside.0 (cut_by_tear (Some half) 20 0 9 with_two [])
 
 reached_cut : Reached torn_moves torn_meaning one_by_one cleared_torn (power_cut ∷ second ∷ first ∷ []) (Awake (up_at with_part 1)) (torn_at with_part None 9)
@@ -179,7 +182,8 @@ reached_cut = was_cut reached_second (record { left = cut_left; state = refl; to
 
 -- record 2 is written and flushed
 ended_third : Ended f 2 (record { 0 = 2 }) after_cut (Ok (reserved 1 2)) (ring_of with_two) after_third
-unfolding plan performed outcome live live_below top top_below foreign_below slot content sound little crc register feed shifts shift encoded body bytes_of parts all_zero
+unfolding plan performed outcome live live_below top top_below foreign_below slot content
+    sound little crc register feed shifts shift encoded body bytes_of parts all_zero
 ended_third =
     record {
       agrees = recovers_agrees f after_third recovers_two;

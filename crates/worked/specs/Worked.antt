@@ -94,7 +94,12 @@ Torn = Stands (Option Held)
 
 abbrev pub torn_meaning : Torn → Meaning
 torn_meaning x =
-    record { reading = x.reading; kept = before x.held x.reading; supply = x.supply; beyond = x.beyond }
+    record {
+      reading = x.reading;
+      kept = before x.held x.reading;
+      supply = x.supply;
+      beyond = x.beyond;
+    }
 
 abbrev pub torn_moves : Moves Torn
 torn_moves =

@@ -48,5 +48,6 @@ returns-clause-promise g c first past reached =
     let before = c.loop-turn.invariant in
     served (g.met.K.Kind.lawful c.args.server.now.kind) (returns-clause-calls g c)
     (subst
-    (λ (xs : List Turn). Serving g.D.Disk.moves g.D.Disk.meaning (g.K.Kind.numbering c.args.server.now.kind) first past xs c.loop-turn.server.state c.loop-turn.server.disk)
+    (λ (xs : List Turn). Serving g.D.Disk.moves g.D.Disk.meaning (g.K.Kind.numbering c.args.server.now.kind) first past xs
+    c.loop-turn.server.state c.loop-turn.server.disk)
     all (before.serving first past reached))

@@ -14,5 +14,6 @@ invariant-loop-turn g l =
       serving :
           (first : g.row.D.Denot) (past : List Event) →
           Reached g.D.Disk.moves g.D.Disk.meaning (g.K.Kind.numbering l.fn.server.kind) first past l.fn.server.state l.fn.server.disk →
-          Serving g.D.Disk.moves g.D.Disk.meaning (g.K.Kind.numbering l.fn.server.kind) first past (take l.turn-index l.turn-items) l.server.state l.server.disk;
+          Serving g.D.Disk.moves g.D.Disk.meaning (g.K.Kind.numbering l.fn.server.kind) first past
+          (take l.turn-index l.turn-items) l.server.state l.server.disk;
     }
