@@ -61,10 +61,10 @@ request_turn s reading answer =
 abbrev pub cut_turn : ℕ → ℕ → Result Sequence ServerFault → Turn
 cut_turn tear supply answer = record { call = Cut tear supply; answer = Some (OfCut answer) }
 
--- what a case says: a memory, the lines of a request file and the lines of its print; the same of a run that has begun; a
--- memory, the lines of a request file, and the calls that are made for them; bytes and their checksum; a byte and its
--- correction; a correction byte, a raw reading and its floor; the same, and the number that a request is denied with; box,
--- millisecond, series, step and their identifier
+-- what a case says: a memory, the lines of a request file and the lines of its print; the same of a run that has
+-- begun; a memory, the lines of a request file, and the calls that are made for them; bytes and their checksum; a
+-- byte and its correction; a correction byte, a raw reading and its floor; the same, and the number that a request is
+-- denied with; box, millisecond, series, step and their identifier
 pub data Case : Type 0 where
   prints : List ℕ → List (List ℕ) → List (List ℕ) → Case
   goes_on : Run → List (List ℕ) → List (List ℕ) → Case

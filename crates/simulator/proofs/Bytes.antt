@@ -25,7 +25,10 @@ unfolding sectors spare
 whole xs rest =
     let n = length xs / 32 in
     let front : flat_map (λ sector. sector) (chunks n xs) ≡ take (32 * n) xs = joined_chunks n xs in
-    sym (ap (λ (ys : List ℕ). ys ++ (drop (32 * n) xs ++ rest)) front ∙ sym (append_assoc (take (32 * n) xs) (drop (32 * n) xs) rest) ∙ ap (λ (ys : List ℕ). ys ++ rest) (take-append-drop (32 * n) xs))
+    sym
+    (ap (λ (ys : List ℕ). ys ++ (drop (32 * n) xs ++ rest)) front
+    ∙ sym (append_assoc (take (32 * n) xs) (drop (32 * n) xs) rest)
+    ∙ ap (λ (ys : List ℕ). ys ++ rest) (take-append-drop (32 * n) xs))
 
 of_device : (d : Device) (rest : List ℕ) → device_bytes d ++ rest ≡ memory_bytes (meaning_of d) rest
 of_device (Faithful d) rest = whole d.sectors.memory.now rest

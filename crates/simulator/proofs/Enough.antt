@@ -1,5 +1,6 @@
 -- What is held of a line, and that it tells as much as the line.
-use Rattle.std.proofs.Common.{◌≡◌, ℕ, ◌+◌, ◌-◌, ◌≤◌, min, eqb, leb, List, [], ◌∷◌, ◌++◌, length, get_or, take, drop, Some, None, Option, sym, refl, ap, ◌∙◌, append_assoc, arith}
+use Rattle.std.proofs.Common.{◌≡◌, ℕ, ◌+◌, ◌-◌, ◌≤◌, min, eqb, leb, List, [], ◌∷◌, ◌++◌, length}
+use Rattle.std.proofs.Common.{get_or, take, drop, Some, None, Option, sym, refl, ap, ◌∙◌, append_assoc, arith}
 use lib.Seq.{take-append-add}
 use Rattle.std.specs.List.{between}
 use Rattle.std.proofs.lemmas.List.{take_min, length-take, length-take-le, length-append, take_at, take-take, get_or-take}
@@ -52,11 +53,17 @@ tells_as_much =
     }
 
 -- the first bytes of two lists: all of the first, and of the second what there is room for
-pub room_for : (xs ys rest : List ℕ) (at more : ℕ) → length xs ≡ at → at ≤ 22 → more ≡ min (length ys) (22 - at) → take (at + more) (xs ++ (take more ys ++ rest)) ≡ take 22 (xs ++ ys)
+pub room_for :
+    (xs ys rest : List ℕ) (at more : ℕ) → length xs ≡ at → at ≤ 22 → more ≡ min (length ys) (22 - at) →
+    take (at + more) (xs ++ (take more ys ++ rest)) ≡ take 22 (xs ++ ys)
 room_for xs ys rest at more e h m =
     let long : length (take more ys) ≡ more = length-take-le more ys (omega arith) in
     let all : length (xs ++ take more ys) ≡ at + more = length-append xs (take more ys) ∙ omega arith in
     let least : more ≡ min (22 - at) (length ys) = omega arith in
     let front : take more ys ≡ take (22 - at) ys = rw least (take_min (22 - at) ys) in
     let room : length xs + (22 - at) ≡ 22 = omega arith in
-    ap (take (at + more)) (sym (append_assoc xs (take more ys) rest)) ∙ take_at (xs ++ take more ys) rest _ all ∙ ap (λ (zs : List ℕ). xs ++ zs) front ∙ sym (take-append-add xs ys (22 - at)) ∙ ap (λ (n : ℕ). take n (xs ++ ys)) room
+    ap (take (at + more)) (sym (append_assoc xs (take more ys) rest))
+    ∙ take_at (xs ++ take more ys) rest _ all
+    ∙ ap (λ (zs : List ℕ). xs ++ zs) front
+    ∙ sym (take-append-add xs ys (22 - at))
+    ∙ ap (λ (n : ℕ). take n (xs ++ ys)) room

@@ -15,12 +15,13 @@ use Rattle.ring.specs.Search.{Ended, refusal}
 use Rattle.ring.specs.declared.fault.RingFault.{RingFault}
 use Rattle.ring.specs.declared.ring.Ring.{Ring}
 use Rattle.ring.specs.declared.token.Reserved.{Reserved}
-use Rattle.server.specs.Rules.{with_ring, one, Range, Wish, declines, draws, decide, end_at, next_at, drawn, identified, tries_for, tries_by, tries, Answered, Reserving, Does, Gave}
+use Rattle.server.specs.Rules.{with_ring, one, Range, Wish, declines, draws, decide, end_at, next_at}
+use Rattle.server.specs.Rules.{drawn, identified, tries_for, tries_by, tries, Answered, Reserving, Does, Gave}
 use Rattle.server.specs.declared.fault.ServerFault.{ServerFault}
 use Rattle.server.specs.declared.state.State.{State}
 use Rattle.server.specs.declared.state.State.TheVariants.{Up as Awake, Down}
 use Rattle.server.specs.declared.state.Up.{Up}
-use Rattle.simulator.specs.Devices.{meaning_of, make_of, device_moves, is_admitted, after_try, after_tries}
+use Rattle.simulator.specs.Devices.{meaning_of, make_of, device_moves, is_carried_out, after_try, after_tries}
 use Rattle.simulator.specs.Requests.{LeftBy, after_reserving, reserved_by, decided, given_by}
 use Rattle.simulator.specs.declared.device.Device.{Device}
 use Rattle.simulator.specs.declared.device.Device.TheVariants.{Faithful, Torn}
@@ -52,27 +53,29 @@ each_is :
 each_is (Faithful d) (Faithful d') (put i bytes) e = (
   refl,
   ap (means write_through.before) e
-      ∙ of_either (means write_through.before) (is_admitted (faithful d) i) (put_in write_through (stands d) i bytes) (stands d),
+      ∙ of_either (means write_through.before) (is_carried_out (faithful d) i) (put_in write_through (stands d) i bytes) (stands d),
 )
 each_is (Torn d) (Torn d') (put i bytes) e =
     let xs = (stands d).reading in
     let kept : set (set xs i bytes) i (at xs i) ≡ xs = set-set xs i bytes (at xs i) ∙ set-get_or xs i [] in (
       refl,
       ap (means before) e
-          ∙ of_either (means before) (is_admitted (torn_disk d) i) (put_in latest_write (stands d) i bytes) (stands d)
+          ∙ of_either (means before) (is_carried_out (torn_disk d) i) (put_in latest_write (stands d) i bytes) (stands d)
           ∙ ap
-          (λ (ys : List (List ℕ)). cond (is_admitted (torn_disk d) i) (record { reading = set xs i bytes; kept = ys; supply = d.supply - 1; beyond = (stands d).beyond }) (torn_disk d))
+          (λ (ys : List (List ℕ)). cond (is_carried_out (torn_disk d) i)
+          (record { reading = set xs i bytes; kept = ys; supply = d.supply - 1; beyond = (stands d).beyond })
+          (torn_disk d))
           kept,
     )
 each_is (Faithful d) (Faithful d') (settle i) e = (
   refl,
   ap (means write_through.before) e
-      ∙ of_either (means write_through.before) (is_admitted (faithful d) i) (settled_in write_through (stands d)) (stands d),
+      ∙ of_either (means write_through.before) (is_carried_out (faithful d) i) (settled_in write_through (stands d)) (stands d),
 )
 each_is (Torn d) (Torn d') (settle i) e = (
   refl,
   ap (means before) e
-      ∙ of_either (means before) (is_admitted (torn_disk d) i) (settled_in latest_write (stands d)) (stands d),
+      ∙ of_either (means before) (is_carried_out (torn_disk d) i) (settled_in latest_write (stands d)) (stands d),
 )
 each_is (Faithful d) (Torn d') (put i bytes) e = absurd e
 each_is (Torn d) (Faithful d') (put i bytes) e = absurd e

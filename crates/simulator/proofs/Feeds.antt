@@ -1,5 +1,6 @@
 -- Lines that come in pieces.
-use Rattle.std.proofs.Common.{◌≡◌, ℕ, suc, ◌<◌, ◌≤◌, Bool, true, false, cond, eqb, leb, List, [], ◌∷◌, ◌++◌, length, replicate, take, drop, Some, None, Option, Result, sym, refl, ap, ◌∙◌, subst, append_assoc, arith, option_map, ⊎_elim}
+use Rattle.std.proofs.Common.{◌≡◌, ℕ, suc, ◌<◌, ◌≤◌, Bool, true, false, cond, eqb, leb, List, [], ◌∷◌, ◌++◌, length}
+use Rattle.std.proofs.Common.{replicate, take, drop, Some, None, Option, Result, sym, refl, ap, ◌∙◌, subst, append_assoc, arith, option_map, ⊎_elim}
 use Rattle.std.proofs.lemmas.Bool.{cases_lt}
 use Rattle.std.proofs.lemmas.Grind.{flat_map-append}
 use Rattle.std.proofs.lemmas.List.{append-nil, take_all, take-take, take-append-le, length-take-le}
@@ -13,7 +14,7 @@ use Rattle.simulator.specs.Calls.{call_by, turn_in, added, Extends}
 use Rattle.simulator.specs.Feeds.{HoldsStart, IsBegun, TakesRows, held_row, AnswersHeld, ReadsOn, StopsRun, Ends, HasTaken, HasPrinted, HasRead, Gains, PrintsPiece, PrintsToStop, PrintsToEnd}
 use Rattle.simulator.specs.Files.{Flow, flow_after, unless_broken, rows_after, rows_of, last_run, first_run}
 use Rattle.simulator.specs.Histories.{RunServed}
-use Rattle.simulator.specs.Lines.{line_end, up_to, first_bytes, ended_if, lines_from, lines_of, held}
+use Rattle.simulator.specs.Lines.{line_end, up_to, first_bytes, ended_if, lines_from, lines_of, held_bytes}
 use Rattle.simulator.specs.Request.{command_in, fields_in}
 use Rattle.simulator.specs.Stages.{View}
 use Rattle.simulator.specs.Steps.{Done, denial_done, command_done, step_of}
@@ -106,12 +107,12 @@ module _ (line rest more : List ℕ) (n : ℕ) (ends : line_end rest ≡ Some n)
   next = rows_of (lines_of (drop n rest ++ more))
 
   tells_line :
-      (run : Run) (held : List ℕ) → held ≡ take 22 (take 22 line ++ first_bytes rest) →
-      rows_of (lines_from (rest ++ more) line) run ≡ row_of run held ∷ rows_after next (row_of run held)
+      (run : Run) (held_bytes : List ℕ) → held_bytes ≡ take 22 (take 22 line ++ first_bytes rest) →
+      rows_of (lines_from (rest ++ more) line) run ≡ row_of run held_bytes ∷ rows_after next (row_of run held_bytes)
   unfolding rows_of
-  tells_line run held same =
+  tells_line run held_bytes same =
       let whole = line ++ take n rest in
-      let row_is : row_of run whole ≡ row_of run held =
+      let row_is : row_of run whole ≡ row_of run held_bytes =
       sym (same_row run whole)
       ∙ ap (row_of run)
       (sym (held_on line (take n rest))
@@ -120,12 +121,12 @@ module _ (line rest more : List ℕ) (n : ℕ) (ends : line_end rest ≡ Some n)
       ap (λ (lines : List (List ℕ)). rows_of lines run) (line_ends rest more line n ends)
       ∙ ap (λ (row : Row). row ∷ rows_after next row) row_is
 
-  module _ (f f' : Feed) (print print' : List ℕ) (same : held f.partial ≡ take 22 (take 22 line ++ first_bytes rest)) where
+  module _ (f f' : Feed) (print print' : List ℕ) (same : held_bytes f.partial ≡ take 22 (take 22 line ++ first_bytes rest)) where
     by_flow :
         (flow : Flow) → AnswersHeld f print flow f' print' →
         rows_of (lines_from (rest ++ more) line) (run_of f.simulator) ≡ held_row f ∷ unless_broken next (held_row f) flow
     by_flow flow a =
-        tells_line (run_of f.simulator) (held f.partial) same
+        tells_line (run_of f.simulator) (held_bytes f.partial) same
         ∙ ap (λ (x : Flow). held_row f ∷ unless_broken next (held_row f) x) (sym a.flows)
 
     pub run_goes_on :
@@ -141,7 +142,7 @@ module _ (line rest more : List ℕ) (n : ℕ) (ends : line_end rest ≡ Some n)
 -- bytes without a line feed are held
 pub still_holds :
     (partial partial' : Partial) (line rest : List ℕ) → HoldsStart partial line → line_end rest ≡ None →
-    held partial' ≡ take 22 (held partial ++ first_bytes rest) → HoldsStart partial' (line ++ rest)
+    held_bytes partial' ≡ take 22 (held_bytes partial ++ first_bytes rest) → HoldsStart partial' (line ++ rest)
 still_holds partial partial' line rest holds none filled =
     filled
     ∙ ap (λ (xs : List ℕ). take 22 (xs ++ first_bytes rest)) holds
@@ -155,8 +156,8 @@ nothing_follows row (Break done) = refl
 nothing_follows row (Continue done) = refl
 
 pub last_row :
-    (run : Run) (partial : Partial) (line : List ℕ) → HoldsStart partial line → (length (held partial) ≡ 0 → ⊥) →
-    row_of run (held partial) ∷ [] ≡ rows_of (lines_from [] line) run
+    (run : Run) (partial : Partial) (line : List ℕ) → HoldsStart partial line → (length (held_bytes partial) ≡ 0 → ⊥) →
+    row_of run (held_bytes partial) ∷ [] ≡ rows_of (lines_from [] line) run
 unfolding lines_from rows_of
 last_row run partial [] holds some = absurd (some (ap length holds))
 last_row run partial (b ∷ bytes) holds some =
@@ -165,7 +166,7 @@ last_row run partial (b ∷ bytes) holds some =
     ∙ sym (ap (λ (rows : List Row). row ∷ rows) (nothing_follows row (flow_after row.done.answer)))
 
 pub no_row :
-    (run : Run) (partial : Partial) (line : List ℕ) → HoldsStart partial line → length (held partial) ≡ 0 →
+    (run : Run) (partial : Partial) (line : List ℕ) → HoldsStart partial line → length (held_bytes partial) ≡ 0 →
     [] ≡ rows_of (lines_from [] line) run
 unfolding lines_from rows_of
 no_row run partial [] holds none = refl

@@ -1,5 +1,6 @@
 -- A number is written into its columns from the right, and the numbers of a line one after another.
-use Rattle.std.proofs.Common.{◌≡◌, ℕ, zero, suc, ◌+◌, ◌/◌, ◌%◌, ◌≤◌, List, [], ◌∷◌, ◌++◌, length, get_or, take, drop, set, sym, refl, ap, ◌∙◌, append_assoc, add-one, arith}
+use Rattle.std.proofs.Common.{◌≡◌, ℕ, zero, suc, ◌+◌, ◌/◌, ◌%◌, ◌≤◌, List, [], ◌∷◌, ◌++◌}
+use Rattle.std.proofs.Common.{length, get_or, take, drop, set, sym, refl, ap, ◌∙◌, append_assoc, add-one, arith}
 use borrow.Rule.Slice.PartMut.{put_mid}
 use Rattle.std.proofs.lemmas.List.{length-append, length-drop, length-take-le, take_at, drop_at, set_at, drop-drop, drop_more, drop_all, nil_from_length}
 use Rattle.simulator.specs.Print.{column, columns_before, justified, printed}
@@ -42,7 +43,9 @@ pub record Placed (front rest ys whole : List ℕ) (at k n : ℕ) : Type 0 where
   pub whole' : put_mid at k whole ys ≡ (front ++ ys) ++ drop k rest
   pub far : length (front ++ ys) ≡ at + k
 
-pub placed : (front rest ys whole : List ℕ) (at k n : ℕ) → whole ≡ front ++ rest → length front ≡ at → k ≤ length rest → ys ≡ justified (length (take k (drop at whole))) n → Placed front rest ys whole at k n
+pub placed :
+    (front rest ys whole : List ℕ) (at k n : ℕ) → whole ≡ front ++ rest → length front ≡ at → k ≤ length rest →
+    ys ≡ justified (length (take k (drop at whole))) n → Placed front rest ys whole at k n
 placed front rest ys whole at k n q f r h =
     let d : drop at whole ≡ rest = rw q (drop_at front rest at f) in
     let t : take at whole ≡ front = rw q (take_at front rest at f) in
@@ -50,21 +53,33 @@ placed front rest ys whole at k n q f r h =
     let y : ys ≡ justified k n = h ∙ ap (λ (w : ℕ). justified w n) l in
     record {
       number = y;
-      whole' = ap (λ (x : List ℕ). x ++ (ys ++ drop k (drop at whole))) t ∙ ap (λ (x : List ℕ). front ++ (ys ++ drop k x)) d ∙ sym (append_assoc front ys (drop k rest));
+      whole' =
+          ap (λ (x : List ℕ). x ++ (ys ++ drop k (drop at whole))) t
+          ∙ ap (λ (x : List ℕ). front ++ (ys ++ drop k x)) d
+          ∙ sym (append_assoc front ys (drop k rest));
       far = length-append front ys ∙ ap (λ (x : ℕ). x + length ys) f ∙ ap (λ (x : ℕ). at + x) (ap length y ∙ length-justified k n);
     }
 
 -- the four numbers and the line feed
-pub laid : (xs a b d e : List ℕ) (n : ℕ) (columns : Columns) → length xs ≡ 34 → a ≡ justified (length (take 6 xs)) n → b ≡ justified (length (take 4 (drop 6 (a ++ drop 6 xs)))) columns.series → d ≡ justified (length (take 3 (drop 10 (put_mid 6 4 (a ++ drop 6 xs) b)))) columns.code → e ≡ justified (length (take 20 (drop 13 (put_mid 10 3 (put_mid 6 4 (a ++ drop 6 xs) b) d)))) columns.last → set (put_mid 13 20 (put_mid 10 3 (put_mid 6 4 (a ++ drop 6 xs) b) d) e) 33 10 ≡ printed n columns
+pub laid :
+    (xs a b d e : List ℕ) (n : ℕ) (columns : Columns) → length xs ≡ 34 → a ≡ justified (length (take 6 xs)) n →
+    b ≡ justified (length (take 4 (drop 6 (a ++ drop 6 xs)))) columns.series →
+    d ≡ justified (length (take 3 (drop 10 (put_mid 6 4 (a ++ drop 6 xs) b)))) columns.code →
+    e ≡ justified (length (take 20 (drop 13 (put_mid 10 3 (put_mid 6 4 (a ++ drop 6 xs) b) d)))) columns.last →
+    set (put_mid 13 20 (put_mid 10 3 (put_mid 6 4 (a ++ drop 6 xs) b) d) e) 33 10 ≡ printed n columns
 unfolding printed
 laid xs a b d e n columns long ha hb hd he =
     let p1 : Placed [] xs a xs 0 6 n = placed [] xs a xs 0 6 n refl refl (omega arith) ha in
     let r1 = drop 6 xs in
     let p2 : Placed a r1 b (a ++ r1) 6 4 columns.series = placed a r1 b (a ++ r1) 6 4 columns.series refl p1.far (simp length-drop (omega arith)) hb in
     let r2 = drop 4 r1 in
-    let p3 : Placed (a ++ b) r2 d (put_mid 6 4 (a ++ r1) b) 10 3 columns.code = placed (a ++ b) r2 d (put_mid 6 4 (a ++ r1) b) 10 3 columns.code p2.whole' p2.far (simp length-drop (omega arith)) hd in
+    let p3 : Placed (a ++ b) r2 d (put_mid 6 4 (a ++ r1) b) 10 3 columns.code =
+    placed (a ++ b) r2 d (put_mid 6 4 (a ++ r1) b) 10 3 columns.code p2.whole' p2.far
+    (simp length-drop (omega arith)) hd in
     let r3 = drop 3 r2 in
-    let p4 : Placed ((a ++ b) ++ d) r3 e (put_mid 10 3 (put_mid 6 4 (a ++ r1) b) d) 13 20 columns.last = placed ((a ++ b) ++ d) r3 e (put_mid 10 3 (put_mid 6 4 (a ++ r1) b) d) 13 20 columns.last p3.whole' p3.far (simp length-drop (omega arith)) he in
+    let p4 : Placed ((a ++ b) ++ d) r3 e (put_mid 10 3 (put_mid 6 4 (a ++ r1) b) d) 13 20 columns.last =
+    placed ((a ++ b) ++ d) r3 e (put_mid 10 3 (put_mid 6 4 (a ++ r1) b) d) 13 20 columns.last p3.whole' p3.far
+    (simp length-drop (omega arith)) he in
     let r4 = drop 20 r3 in
     let front = ((a ++ b) ++ d) ++ e in
     let all : r4 ≡ drop 33 xs = simp drop-drop in

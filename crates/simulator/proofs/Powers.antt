@@ -22,7 +22,10 @@ below_more i b Spaces h =
     chosen _ (eqb b 32) _ _ (λ _. tt) (λ _. chosen _ (is_digit b) _ _ first (λ _. tt))
 below_more i b (Number n) h =
     let e : 10 ^ (i + 1) ≡ 10 ^ i * 10 = rw add-one (pow-suc 10 i) in
-    let next : is_digit b && not (eqb n 0) ≡ true → 10 * n + (b - 48) < 10 ^ (i + 1) = λ d. let k = digit_below b (and_parts (is_digit b) _ d).0 in omega arith in
+    let next : is_digit b && not (eqb n 0) ≡ true → 10 * n + (b - 48) < 10 ^ (i + 1) =
+    λ d.
+    let k = digit_below b (and_parts (is_digit b) _ d).0 in
+    omega arith in
     chosen _ (is_digit b && not (eqb n 0)) _ _ next (λ _. tt)
 below_more i b Wrong h = tt
 

@@ -1,5 +1,6 @@
 -- Numbers in columns are spaces and then the number.
-use Rattle.std.proofs.Common.{◌≡◌, ℕ, zero, suc, ◌+◌, ◌-◌, ◌*◌, ◌/◌, ◌%◌, ◌^◌, ◌<◌, ◌≤◌, Bool, true, false, cond, not, ◌&&◌, eqb, ◌⊎◌, List, [], ◌∷◌, ◌++◌, length, replicate, Some, decimal, sym, refl, ap, ◌∙◌, inl, inr, ⊎_elim, append_assoc, add-one, arith}
+use Rattle.std.proofs.Common.{◌≡◌, ℕ, zero, suc, ◌+◌, ◌-◌, ◌*◌, ◌/◌, ◌%◌, ◌^◌, ◌<◌, ◌≤◌, Bool, true, false, cond, not, ◌&&◌, eqb}
+use Rattle.std.proofs.Common.{◌⊎◌, List, [], ◌∷◌, ◌++◌, length, replicate, Some, decimal, sym, refl, ap, ◌∙◌, inl, inr, ⊎_elim, append_assoc, add-one, arith}
 use Rattle.std.proofs.lemmas.Fmt.{decimal_digit, decimal_step, decimal_by_steps, decimal_nonempty}
 use Rattle.std.proofs.lemmas.List.{append-nil, length-append, replicate_more}
 use Rattle.std.proofs.lemmas.Bool.{cases_lt, ne_eqb, eqb-true, eqb-false}
@@ -52,7 +53,10 @@ spelled n l =
     more : (n : ℕ) (ds : List ℕ) → 10 ≤ n → after_bytes Spaces ds ≡ Number (n / 10) → after_bytes Spaces (ds ++ ((48 + n % 10) ∷ [])) ≡ Number n
     more n ds l h =
         let v : 10 * (n / 10) + n % 10 ≡ n = omega arith in
-        after_push Spaces ds (48 + n % 10) ∙ ap (λ (t : Told). after_byte t (48 + n % 10)) h ∙ next_digit (n / 10) (n % 10) (omega arith) (omega arith) ∙ ap Number v
+        after_push Spaces ds (48 + n % 10)
+        ∙ ap (λ (t : Told). after_byte t (48 + n % 10)) h
+        ∙ next_digit (n / 10) (n % 10) (omega arith) (omega arith)
+        ∙ ap Number v
 
 told-spaced : (k n : ℕ) → n < 2 ^ 64 → field (spaced k n) ≡ Some n
 told-spaced zero n l = told_is Spaces (decimal n) ∙ ap told_number (spelled n l)
@@ -64,7 +68,10 @@ no_number n [] e = let z : ◌≡◌ {A = ℕ} 0 1 = cc in omega arith
 no_number n (b ∷ bs) e = no_number n bs e
 
 -- a digit that followed: what it was, and what is told with it
-goes_on : (b v n : ℕ) (bs : List ℕ) (test zero' : Bool) → is_digit b ≡ test → eqb v 0 ≡ zero' → number_after (cond (test && not zero') (Number (10 * v + (b - 48))) Wrong) bs ≡ Some n → (is_digit b ≡ true) × (eqb v 0 ≡ false) × (number_after (Number (10 * v + (b - 48))) bs ≡ Some n)
+goes_on :
+    (b v n : ℕ) (bs : List ℕ) (test zero' : Bool) → is_digit b ≡ test → eqb v 0 ≡ zero' →
+    number_after (cond (test && not zero') (Number (10 * v + (b - 48))) Wrong) bs ≡ Some n →
+    (is_digit b ≡ true) × (eqb v 0 ≡ false) × (number_after (Number (10 * v + (b - 48))) bs ≡ Some n)
 goes_on b v n bs true false d z e = (d, z, e)
 goes_on b v n bs true true d z e = absurd (no_number n bs e)
 goes_on b v n bs false zero' d z e = absurd (no_number n bs e)
@@ -92,7 +99,10 @@ completes v n (b ∷ bs) l e =
     let large : 10 ≤ w = more_than v (b - 48) some in
     let front : w / 10 ≡ v = omega arith in
     let last : 48 + w % 10 ≡ b = omega arith in
-    let step : decimal w ≡ decimal v ++ (b ∷ []) = decimal_step w large (omega arith) ∙ ap (λ (x : ℕ). decimal x ++ ((48 + w % 10) ∷ [])) front ∙ ap (λ (x : ℕ). decimal v ++ (x ∷ [])) last in
+    let step : decimal w ≡ decimal v ++ (b ∷ []) =
+    decimal_step w large (omega arith)
+    ∙ ap (λ (x : ℕ). decimal x ++ ((48 + w % 10) ∷ [])) front
+    ∙ ap (λ (x : ℕ). decimal v ++ (x ∷ [])) last in
     sym (append_assoc (decimal v) (b ∷ []) bs) ∙ ap (λ (ds : List ℕ). ds ++ bs) (sym step) ∙ completes w n bs l g.2
   where
     more_than : (v d : ℕ) → (v ≡ 0 → ⊥) → 10 ≤ 10 * v + d
@@ -100,7 +110,10 @@ completes v n (b ∷ bs) l e =
     more_than (suc v) d some = omega arith
 
 -- the first byte: a space, or the first digit
-begins : (b n : ℕ) (bs : List ℕ) (space test : Bool) → eqb b 32 ≡ space → is_digit b ≡ test → number_after (cond space Spaces (cond test (Number (b - 48)) Wrong)) bs ≡ Some n → ((b ≡ 32) × (number_after Spaces bs ≡ Some n)) ⊎ ((is_digit b ≡ true) × (number_after (Number (b - 48)) bs ≡ Some n))
+begins :
+    (b n : ℕ) (bs : List ℕ) (space test : Bool) → eqb b 32 ≡ space → is_digit b ≡ test →
+    number_after (cond space Spaces (cond test (Number (b - 48)) Wrong)) bs ≡ Some n →
+    ((b ≡ 32) × (number_after Spaces bs ≡ Some n)) ⊎ ((is_digit b ≡ true) × (number_after (Number (b - 48)) bs ≡ Some n))
 begins b n bs true test s d e = inl (eqb-true b 32 s, e)
 begins b n bs false true s d e = inr (d, e)
 begins b n bs false false s d e = absurd (no_number n bs e)
@@ -142,13 +155,20 @@ printed-spaced (suc w) n l fits =
     let same : n % 10 ≡ n = omega arith in
     let one : decimal n ≡ (48 + n) ∷ [] = decimal_digit n small in
     let room : suc w - length (decimal n) ≡ w = omega (arith, ap length one) in
-    ap (λ (x : ℕ). columns_before w x ++ ((48 + n % 10) ∷ [])) none ∙ ap (λ (xs : List ℕ). xs ++ ((48 + n % 10) ∷ [])) (before-none w) ∙ ap (λ (x : ℕ). replicate w 32 ++ ((48 + x) ∷ [])) same ∙ ap (λ (xs : List ℕ). replicate w 32 ++ xs) (sym one) ∙ ap (λ (k : ℕ). replicate k 32 ++ decimal n) (sym room))
+    ap (λ (x : ℕ). columns_before w x ++ ((48 + n % 10) ∷ [])) none
+    ∙ ap (λ (xs : List ℕ). xs ++ ((48 + n % 10) ∷ [])) (before-none w)
+    ∙ ap (λ (x : ℕ). replicate w 32 ++ ((48 + x) ∷ [])) same
+    ∙ ap (λ (xs : List ℕ). replicate w 32 ++ xs) (sym one)
+    ∙ ap (λ (k : ℕ). replicate k 32 ++ decimal n) (sym room))
     (λ (large : 10 ≤ n).
     let step : decimal n ≡ decimal (n / 10) ++ ((48 + n % 10) ∷ []) = decimal_step n large l in
     let long : length (decimal n) ≡ length (decimal (n / 10)) + 1 = ap length step ∙ length-append (decimal (n / 10)) ((48 + n % 10) ∷ []) in
     let rest = printed-spaced w (n / 10) (omega arith) (omega arith) in
     let room : w - length (decimal (n / 10)) ≡ suc w - length (decimal n) = omega arith in
-    ap (λ (xs : List ℕ). xs ++ ((48 + n % 10) ∷ [])) (before_some w (n / 10) (omega arith) ∙ rest) ∙ append_assoc (replicate (w - length (decimal (n / 10))) 32) (decimal (n / 10)) ((48 + n % 10) ∷ []) ∙ ap (λ (xs : List ℕ). replicate (w - length (decimal (n / 10))) 32 ++ xs) (sym step) ∙ ap (λ (k : ℕ). replicate k 32 ++ decimal n) room)
+    ap (λ (xs : List ℕ). xs ++ ((48 + n % 10) ∷ [])) (before_some w (n / 10) (omega arith) ∙ rest)
+    ∙ append_assoc (replicate (w - length (decimal (n / 10))) 32) (decimal (n / 10)) ((48 + n % 10) ∷ [])
+    ∙ ap (λ (xs : List ℕ). replicate (w - length (decimal (n / 10))) 32 ++ xs) (sym step)
+    ∙ ap (λ (k : ℕ). replicate k 32 ++ decimal n) room)
     (cases_lt n 10)
 
 pub numbers_in_columns : NumbersInColumns

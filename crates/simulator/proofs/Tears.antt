@@ -6,7 +6,7 @@ use Rattle.disk.specs.Tearing.{torn_equal}
 use Rattle.disk.specs.Memory.{sectors}
 use Rattle.disk.specs.declared.memory.MemoryDisk.{MemoryDisk}
 use Rattle.disk.specs.declared.torn.Held.{Held}
-use Rattle.simulator.specs.Devices.{meaning_of, make_of, device_moves, torn_apart, after_cut}
+use Rattle.simulator.specs.Devices.{meaning_of, make_of, device_moves, torn_apart, meaning_after_cut}
 use Rattle.simulator.specs.declared.device.Device.{Device}
 use Rattle.simulator.specs.declared.device.Device.TheVariants.{Faithful, Torn}
 
@@ -23,11 +23,14 @@ all_same tear (x ∷ xs) =
     ap (λ (y : List ℕ). y ∷ xs) (sym (torn_equal tear x)) ∙ ap (λ (ys : List (List ℕ)). torn tear x x ∷ ys) (all_same tear xs)
 
 -- only the sector that is held back differs
-one_differs : (tear : ℕ) (old : List ℕ) (reading : List (List ℕ)) (i : ℕ) → set reading i (torn tear old (get_or reading i [])) ≡ torn_apart tear (set reading i old) reading
+one_differs :
+    (tear : ℕ) (old : List ℕ) (reading : List (List ℕ)) (i : ℕ) →
+    set reading i (torn tear old (get_or reading i [])) ≡ torn_apart tear (set reading i old) reading
 one_differs tear old [] i = refl
 one_differs tear old (x ∷ xs) zero = ap (λ (ys : List (List ℕ)). torn tear old x ∷ ys) (all_same tear xs)
 one_differs tear old (x ∷ xs) (suc i) =
-    ap (λ (y : List ℕ). y ∷ set xs i (torn tear old (get_or xs i []))) (sym (torn_equal tear x)) ∙ ap (λ (ys : List (List ℕ)). torn tear x x ∷ ys) (one_differs tear old xs i)
+    ap (λ (y : List ℕ). y ∷ set xs i (torn tear old (get_or xs i []))) (sym (torn_equal tear x))
+    ∙ ap (λ (ys : List (List ℕ)). torn tear x x ∷ ys) (one_differs tear old xs i)
 
 left_is : (tear : ℕ) (held : Option Held) (reading : List (List ℕ)) → left_sectors tear held reading ≡ torn_apart tear (before held reading) reading
 left_is tear None reading = all_same tear reading
@@ -43,7 +46,7 @@ all_left supply beyond left = record { reading = left; kept = left; supply = sup
 -- a cut of either disk, by its own relation: it is the same disk, as the tear leaves it
 pub cut_is :
     (d d' : Device) (tear supply : ℕ) → device_moves.cuts d tear supply d' →
-    (make_of d' ≡ make_of d) × (meaning_of d' ≡ after_cut (make_of d) tear supply (meaning_of d))
+    (make_of d' ≡ make_of d) × (meaning_of d' ≡ meaning_after_cut (make_of d) tear supply (meaning_of d))
 cut_is (Faithful d) (Faithful d') tear supply e = (refl, ap (means write_through.before) e)
 cut_is (Torn d) (Torn d') tear supply e = (
   refl,

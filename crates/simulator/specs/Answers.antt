@@ -1,9 +1,10 @@
 -- What is printed of each answer and of each denial.
-use Rattle.std.specs.Prelude.{ℕ, Bool, if◌then◌else◌, ◌&&◌, Ok, Err, Result, nat_le, nat_lt, unwrap_or}
-use Rattle.kind.specs.Fault.{number_of}
-use Rattle.server.specs.Faults.{particulars}
+use Rattle.std.specs.Prelude.{ℕ, Bool, if◌then◌else◌, ◌&&◌, List, ◌++◌, codes, Ok, Err, Result, nat_le, nat_lt, unwrap_or}
+use Rattle.std.specs.Fmt.{decimal}
+use Rattle.kind.specs.Fault.{number_of, setting_fault_text}
+use Rattle.server.specs.Faults.{particulars, server_fault_text}
 use Rattle.server.specs.declared.fault.ServerFault.{ServerFault}
-use Rattle.simulator.specs.Request.{column_of}
+use Rattle.simulator.specs.Request.{column_of, item_text}
 use Rattle.simulator.specs.declared.answer.Answer.{Answer}
 use Rattle.simulator.specs.declared.answer.Answer.TheVariants.{Set, Given, Woken}
 use Rattle.simulator.specs.declared.answer.Columns.{Columns}
@@ -34,6 +35,22 @@ denial_columns NoDevice = coded 4
 denial_columns (Setting fault) = coded (number_of fault)
 denial_columns (NotGiven series fault) = record (of_server fault) { series = shown series }
 denial_columns (NotWoken fault) = of_server fault
+
+-- what was denied, and why
+abbrev pub denial_text : Denial → List ℕ
+denial_text ShortPrint = codes "the print line has fewer than 34 bytes"
+denial_text (Malformed item) = codes "the request line is wrong: " ++ item_text item
+denial_text Ended = codes "the run has ended"
+denial_text TooMany = codes "the line's number is above 999999"
+denial_text Size = codes "a disk has 10 to 2048 sectors, and the memory must have room for them"
+denial_text NoDevice = codes "there is no device but 0, the faithful disk, and 1, the torn one"
+denial_text (Setting fault) = setting_fault_text fault
+denial_text (NotGiven series fault) =
+    codes "no identifier of series "
+    ++ (decimal series
+    ++ (codes ": " ++ server_fault_text fault))
+denial_text (NotWoken fault) =
+    codes "no server after the power cut: " ++ server_fault_text fault
 
 -- the denials 2 to 6 end the run
 abbrev pub ends : Denial → Bool

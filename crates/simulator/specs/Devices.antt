@@ -76,15 +76,15 @@ room bytes sectors =
     nat_le LEAST_SECTORS sectors
     && (nat_le sectors MOST_SECTORS && nat_le (SECTOR_BYTES * sectors) bytes)
 
--- the two disks exactly. A write: the faithful disk keeps it at once; the torn disk keeps what it read before, and holds
--- the write back
+-- the two disks exactly. A write: the faithful disk keeps it at once; the torn disk keeps what it read before, and
+-- holds the write back
 abbrev pub kept_by_write : Make → Meaning → ℕ → List ℕ → List (List ℕ)
 kept_by_write AFaithful m i bytes = slice_set m.reading i bytes
 kept_by_write ATorn m i bytes = m.reading
 
 -- a disk after a write of bytes into a sector
-abbrev pub after_write : Make → Meaning → ℕ → List ℕ → Meaning
-after_write make m i bytes =
+abbrev pub meaning_after_write : Make → Meaning → ℕ → List ℕ → Meaning
+meaning_after_write make m i bytes =
     record {
       reading = slice_set m.reading i bytes;
       kept = kept_by_write make m i bytes;
@@ -93,8 +93,8 @@ after_write make m i bytes =
     }
 
 -- a flush: what is read is kept
-abbrev pub after_flush : Meaning → Meaning
-after_flush m =
+abbrev pub meaning_after_flush : Meaning → Meaning
+meaning_after_flush m =
     record { reading = m.reading; kept = m.reading; supply = m.supply - 1; beyond = m.beyond }
 
 -- each sector torn between what is kept of it and what it reads; where the two are the same it stays
@@ -110,8 +110,8 @@ reading_after_cut AFaithful tear m = m.reading
 reading_after_cut ATorn tear m = torn_apart tear m.kept m.reading
 
 -- a disk after a cut with a tear and a new supply
-abbrev pub after_cut : Make → ℕ → ℕ → Meaning → Meaning
-after_cut make tear supply m =
+abbrev pub meaning_after_cut : Make → ℕ → ℕ → Meaning → Meaning
+meaning_after_cut make tear supply m =
     record {
       reading = reading_after_cut make tear m;
       kept = reading_after_cut make tear m;
@@ -120,14 +120,14 @@ after_cut make tear supply m =
     }
 
 -- whether a write or a flush of a sector succeeds
-abbrev pub is_admitted : Meaning → ℕ → Bool
-is_admitted m i = nat_lt i (count m) && nat_lt 0 m.supply
+abbrev pub is_carried_out : Meaning → ℕ → Bool
+is_carried_out m i = nat_lt i (count m) && nat_lt 0 m.supply
 
 -- a disk after an operation that is tried: one that is denied changes nothing
 abbrev pub after_try : Make → Meaning → Op → Meaning
 after_try make m (put i bytes) =
-    if is_admitted m i then after_write make m i bytes else m
-after_try make m (settle i) = if is_admitted m i then after_flush m else m
+    if is_carried_out m i then meaning_after_write make m i bytes else m
+after_try make m (settle i) = if is_carried_out m i then meaning_after_flush m else m
 
 -- a disk after operations that are tried, one after the other
 unfoldable pub after_tries : Make → Meaning → List Op → Meaning

@@ -4,7 +4,7 @@ use Rattle.std.specs.List.{filter_map, flat_map}
 use Rattle.history.specs.declared.calls.Turn.{Turn}
 use Rattle.simulator.specs.Files.{Flow, flow_after, rows_of, last_run, first_run, print_of_lines, print_of_file}
 use Rattle.simulator.specs.Histories.{RunServed}
-use Rattle.simulator.specs.Lines.{lines_from, lines_of, held}
+use Rattle.simulator.specs.Lines.{lines_from, lines_of, held_bytes}
 use Rattle.simulator.specs.Takes.{run_of, Row, row_of, print_of, turn_of}
 use Rattle.simulator.specs.declared.feed.Feed.{Feed}
 use Rattle.simulator.specs.declared.partial.Partial.{Partial}
@@ -13,7 +13,7 @@ use Rattle.simulator.specs.declared.simulator.Simulator.{Simulator}
 
 -- of a line that has not ended the first bytes are held
 abbrev pub HoldsStart : Partial → List ℕ → Type 0
-HoldsStart partial line = held partial ≡ take HELD_BYTES line
+HoldsStart partial line = held_bytes partial ≡ take HELD_BYTES line
 
 -- a run that has read nothing
 pub record IsBegun (memory : List ℕ) (f : Feed) : Type 0 where
@@ -33,14 +33,14 @@ pub record TakesRows (s : Simulator) (print : List ℕ) (rows : List Row) (s' : 
 
 -- the line that is held
 abbrev pub held_row : Feed → Row
-held_row f = row_of (run_of f.simulator) (held f.partial)
+held_row f = row_of (run_of f.simulator) (held_bytes f.partial)
 
 -- it is taken
 pub record AnswersHeld (f : Feed) (print : List ℕ) (flow : Flow) (f' : Feed)
     (print' : List ℕ) : Type 0 where
   pub takes : TakesRows f.simulator print (held_row f ∷ []) f'.simulator print'
   pub flows : flow ≡ flow_after (held_row f).done.answer
-  pub empty : held f'.partial ≡ []
+  pub empty : held_bytes f'.partial ≡ []
 
 -- a piece was read, up to what is left of it: whatever follows, the lines are those that were taken and
 -- those of what is left
@@ -77,7 +77,9 @@ StopsRun f piece print f' print' =
 abbrev pub Ends : Feed → List ℕ → Feed → List ℕ → Type 0
 Ends f print f' print' =
     (line : List ℕ) → HoldsStart f.partial line →
-    TakesRows f.simulator print (rows_of (lines_from [] line) (run_of f.simulator)) f'.simulator print'
+    TakesRows f.simulator print
+    (rows_of (lines_from [] line) (run_of f.simulator))
+    f'.simulator print'
 
 -- a run over a memory has taken these lines: it stands after them, they are printed, and its server has
 -- answered the calls that were made for them

@@ -36,8 +36,8 @@ abbrev pub lines_of : List ℕ → List (List ℕ)
 lines_of bytes = lines_from bytes []
 
 -- the bytes that are held of a line
-abbrev pub held : Partial → List ℕ
-held p = take p.count p.bytes
+abbrev pub held_bytes : Partial → List ℕ
+held_bytes p = take p.count p.bytes
 
 -- the first bytes of a line, as many as are held, have its command and its fields, or the same first wrong item
 pub record TellsAsMuch : Type 0 where

@@ -1,5 +1,5 @@
 -- A request line of 21 columns: the letter in 1, field A up to 6, field B up to 20, the line feed in 21.
-use Rattle.std.specs.Prelude.{ℕ, Bool, true, false, if◌then◌else◌, ◌&&◌, ◌||◌, List, [], ◌∷◌, length, Some, None, Ok, Err, Option, Result, ◌==◌, nat_le, slice_index}
+use Rattle.std.specs.Prelude.{ℕ, Bool, true, false, if◌then◌else◌, ◌&&◌, ◌||◌, List, [], ◌∷◌, codes, length, Some, None, Ok, Err, Option, Result, ◌==◌, nat_le, slice_index}
 use Rattle.std.specs.List.{between}
 use Rattle.simulator.specs.Field.{field}
 use Rattle.simulator.specs.declared.request.Command.{Command}
@@ -30,6 +30,13 @@ column_of Letter = 1
 column_of FieldA = 2
 column_of FieldB = 7
 column_of LineFeed = 21
+
+-- what is wrong with an item
+abbrev pub item_text : Item → List ℕ
+item_text Letter = codes "the letter in column 1 is none that may come here"
+item_text FieldA = codes "field A is no number at the right end of columns 2 to 6"
+item_text FieldB = codes "field B is no number at the right end of columns 7 to 20, or must be 0"
+item_text LineFeed = codes "the line does not end with a line feed in column 21"
 
 -- field B must be 0 after S and T
 abbrev pub uses_b : Command → Bool

@@ -40,8 +40,8 @@ after_reserving u s first n given m (Ok reserved) =
 after_reserving u s first n given m (Err fault) =
     record { answer = Err (OfRing fault); state = stopped u fault; disk = m }
 
--- a reservation, by what the ring refuses it for; else the disk goes by the operations that are tried, and the ranks are
--- given only if all succeed
+-- a reservation, by what the ring refuses it for; else the disk goes by the operations that are tried, and the ranks
+-- are given only if all succeed
 abbrev pub reserved_by :
     {A : Type 0} → Make → Up → Meaning → ℕ → ℕ → ℕ → ℕ → A → Option RingFault → LeftBy A
 reserved_by make u m s first n end given (Some fault) =

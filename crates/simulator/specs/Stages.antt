@@ -14,9 +14,9 @@ use Rattle.simulator.specs.declared.stage.Left.TheVariants as left
 use Rattle.simulator.specs.declared.stage.Stage.{Stage}
 use Rattle.simulator.specs.declared.stage.Stage.TheVariants as stage
 
--- the line for the device is to come: the memory; the line for the kind: the disk and the memory past it; the line for the
--- box: the lease too; requests and cuts: the kind and the server's state; or the run has ended: the kind of its server, if it
--- had one, and the memory that is left
+-- the line for the device is to come: the memory; the line for the kind: the disk and the memory past it; the line
+-- for the box: the lease too; requests and cuts: the kind and the server's state; or the run has ended: the kind of
+-- its server, if it had one, and the memory that is left
 pub data View : Type 0 where
   awaits_disk : List ℕ → View
   awaits_kind : Make → Meaning → List ℕ → View
@@ -64,16 +64,18 @@ kind_at (has_ended kind memory) = kind
 kind_at v = None
 
 -- the run ends: the memory is left
-abbrev pub closed : View → View
-closed v = has_ended (kind_at v) (memory_of v)
+abbrev pub view_at_end : View → View
+view_at_end v = has_ended (kind_at v) (memory_of v)
 
 -- a server is put together over the disk
-abbrev pub started : AnyKind → View → View
-started kind (awaits_kind make m spare) = runs make kind (woken (numbering_of kind) m) m spare
-started kind (awaits_box make lease m spare) = runs make kind (woken (numbering_of kind) m) m spare
-started kind v = v
+abbrev pub view_with_kind : AnyKind → View → View
+view_with_kind kind (awaits_kind make m spare) =
+    runs make kind (woken (numbering_of kind) m) m spare
+view_with_kind kind (awaits_box make lease m spare) =
+    runs make kind (woken (numbering_of kind) m) m spare
+view_with_kind kind v = v
 
 -- the lease is known
-abbrev pub leased : Lease → View → View
-leased lease (awaits_kind make m spare) = awaits_box make lease m spare
-leased lease v = v
+abbrev pub view_with_lease : Lease → View → View
+view_with_lease lease (awaits_kind make m spare) = awaits_box make lease m spare
+view_with_lease lease v = v

@@ -16,11 +16,11 @@ use Rattle.ring.specs.Ring.{recover}
 use Rattle.server.specs.Rules.{format, woken, top_told}
 use Rattle.server.specs.declared.fault.ServerFault.{ServerFault}
 use Rattle.server.specs.declared.state.State.{State}
-use Rattle.simulator.specs.Devices.{meaning_of, make_of, make_for, room, after_cut}
+use Rattle.simulator.specs.Devices.{meaning_of, make_of, make_for, room, meaning_after_cut}
 use Rattle.simulator.specs.Kinds.{numbering_of}
 use Rattle.simulator.specs.Request.{command_in, fields_in}
 use Rattle.simulator.specs.Requests.{LeftBy, given_by}
-use Rattle.simulator.specs.Stages.{View, awaits_disk, awaits_kind, awaits_box, runs, has_ended, started, leased}
+use Rattle.simulator.specs.Stages.{View, awaits_disk, awaits_kind, awaits_box, runs, has_ended, view_with_kind, view_with_lease}
 use Rattle.simulator.specs.declared.answer.Answer.{Answer}
 use Rattle.simulator.specs.declared.answer.Answer.TheVariants.{Set, Given, Woken}
 use Rattle.simulator.specs.declared.answer.Denial.{Denial}
@@ -69,17 +69,17 @@ opened memory f =
 -- the serial kind with a block size
 abbrev pub with_serial : View → Result SerialKind SettingFault → Done
 with_serial v (Err fault) = denial_done (Setting fault) v
-with_serial v (Ok k) = set_up (started (kind.Serial k) v)
+with_serial v (Ok k) = set_up (view_with_kind (kind.Serial k) v)
 
 -- the lease of the time kind
 abbrev pub with_lease : View → Result Lease SettingFault → Done
 with_lease v (Err fault) = denial_done (Setting fault) v
-with_lease v (Ok lease) = set_up (leased lease v)
+with_lease v (Ok lease) = set_up (view_with_lease lease v)
 
 -- the time kind, or the fault of its box
 abbrev pub with_time : View → Result TimeKind SettingFault → Done
 with_time v (Err fault) = denial_done (Setting fault) v
-with_time v (Ok k) = set_up (started (kind.Time k) v)
+with_time v (Ok k) = set_up (view_with_kind (kind.Time k) v)
 
 -- the correction byte is tested first, then the box
 abbrev pub with_correction : View → Lease → ℕ → Result Correction SettingFault → Done
@@ -106,12 +106,15 @@ woken_on make kind spare m =
 
 -- a cut with a tear and a new supply: the server wakes on what the disk then is
 abbrev pub cut_off : Make → AnyKind → Meaning → List ℕ → Fields → Done
-cut_off make kind m spare f = woken_on make kind spare (after_cut make f.a f.b m)
+cut_off make kind m spare f = woken_on make kind spare (meaning_after_cut make f.a f.b m)
 
 -- a request's answer, with the stage after it
 abbrev pub request_done : Make → AnyKind → List ℕ → ℕ → LeftBy Identifier → Done
 request_done make kind spare series left =
-    record { answer = give_answer series left.answer; after = runs make kind left.state left.disk spare }
+    record {
+      answer = give_answer series left.answer;
+      after = runs make kind left.state left.disk spare;
+    }
 
 -- a request at a reading; a series above 255 is asked for as 255
 abbrev pub requested : Make → AnyKind → State → Meaning → List ℕ → Fields → Done

@@ -5,7 +5,7 @@ use Rattle.history.specs.declared.calls.Turn.{Turn}
 use Rattle.simulator.specs.Answers.{ends, columns_of}
 use Rattle.simulator.specs.Calls.{answer_in, call_in, turn_by}
 use Rattle.simulator.specs.Print.{printed}
-use Rattle.simulator.specs.Stages.{View, view, closed}
+use Rattle.simulator.specs.Stages.{View, view, view_at_end}
 use Rattle.simulator.specs.Steps.{Done, denial_done, step_of}
 use Rattle.simulator.specs.declared.answer.Answer.{Answer}
 use Rattle.simulator.specs.declared.answer.Denial.{Denial}
@@ -29,9 +29,9 @@ abbrev pub shown_number : ℕ → ℕ
 shown_number taken = min taken LAST_LINE
 
 -- a denial of 2 to 6 ends the run
-abbrev pub finished : Result Answer Denial → View → View
-finished (Ok answer) v = v
-finished (Err denial) v = if ends denial then closed v else v
+abbrev pub view_after : Result Answer Denial → View → View
+view_after (Ok answer) v = v
+view_after (Err denial) v = if ends denial then view_at_end v else v
 
 -- a line by its number: past the last number it is denied, else it does what it says
 abbrev pub by_number : ℕ → View → List ℕ → Done
@@ -40,7 +40,7 @@ by_number number v line =
 
 -- and the run ends where it has to
 abbrev pub ended_by : Done → Done
-ended_by done = record { answer = done.answer; after = finished done.answer done.after }
+ended_by done = record { answer = done.answer; after = view_after done.answer done.after }
 
 -- where a run stands: its stage, and how many lines were taken
 pub record Run : Type 0 where

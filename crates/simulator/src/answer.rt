@@ -1,12 +1,14 @@
 // What a request line is answered with.
-ghost use Rattle.std.specs.Prelude.{◌≡◌};
-ghost use Rattle.simulator.specs.Answers.{coded, of_server, denial_columns, ends, columns_of, shown};
+ghost use Rattle.std.specs.Prelude.{◌≡◌, Some};
+ghost use Rattle.simulator.specs.Answers.{coded, of_server, denial_columns, denial_text, ends, columns_of, shown};
 ghost use Rattle.simulator.specs.declared.answer.Denial.TheVariants.{Malformed, Setting};
 
 use crate::request::Item;
 use kind::SettingFault;
 use record::{Identifier, Sequence};
 use server::ServerFault;
+use std::error::Error;
+use std::fmt;
 
 // A line that was taken and not denied.
 #[derive(Clone, Copy, PartialEq, Eq, Debug)]
@@ -111,6 +113,33 @@ impl Denial {
         matches!(self.number(), 2..=6)
     }
 }
+
+// What was denied, and why.
+impl fmt::Display for Denial {
+    ghost output = { λ denial. Some (denial_text denial) };
+
+    fn fmt<W: fmt::Write>(&self, f: &mut fmt::Formatter<W>) -> fmt::Result {
+        match *self {
+            Denial::ShortPrint => f.write_str("the print line has fewer than 34 bytes"),
+            Denial::Malformed(item) => write!(f, "the request line is wrong: {item}"),
+            Denial::Ended => f.write_str("the run has ended"),
+            Denial::TooMany => f.write_str("the line's number is above 999999"),
+            Denial::Size => f.write_str(
+                "a disk has 10 to 2048 sectors, and the memory must have room for them",
+            ),
+            Denial::NoDevice => f.write_str(
+                "there is no device but 0, the faithful disk, and 1, the torn one",
+            ),
+            Denial::Setting(fault) => write!(f, "{fault}"),
+            Denial::NotGiven { series, fault } => {
+                write!(f, "no identifier of series {series}: {fault}")
+            }
+            Denial::NotWoken(fault) => write!(f, "no server after the power cut: {fault}"),
+        }
+    }
+}
+
+impl Error for Denial {}
 
 // A series as it is printed: 0 for one above 7.
 fn shown(series: u64) -> u64

@@ -7,7 +7,8 @@ use crate::line::line_end;
 // A request line has 21 bytes. One byte more shows that a line is too long, and what follows tells nothing.
 const HELD_BYTES: usize = 22;
 
-// The first bytes of a line that has not ended. An array and a count, since this type is `Copy` and an `ArrayVec` is not.
+// The first bytes of a line that has not ended. An array and a count, since this type is `Copy` and an `ArrayVec` is
+// not.
 #[derive(Clone, Copy)]
 pub struct Partial {
     bytes: [u8; HELD_BYTES],
@@ -17,11 +18,11 @@ pub struct Partial {
 
 impl Partial {
     ghost use Rattle.std.specs.Prelude.{◌≡◌, ◌≤◌, [], ◌++◌, length, take, IfSome};
-    ghost use Rattle.simulator.specs.Lines.{line_end, held, first_bytes, TellsAsMuch};
+    ghost use Rattle.simulator.specs.Lines.{line_end, held_bytes, first_bytes, TellsAsMuch};
 
     // Nothing of a line.
     pub fn new() -> Partial
-        ensures { held result ≡ [] }
+        ensures { held_bytes result ≡ [] }
     {
         Partial {
             bytes: [0; HELD_BYTES],
@@ -31,7 +32,7 @@ impl Partial {
 
     // Holds what there is room for of some bytes.
     fn hold(&mut self, input: &[u8])
-        ensures { held self.new ≡ take HELD_BYTES (held self.old ++ input.now) }
+        ensures { held_bytes self.new ≡ take HELD_BYTES (held_bytes self.old ++ input.now) }
     {
         let more = input.len().min(HELD_BYTES - self.count);
         self.bytes[self.count..self.count + more].copy_from_slice(&input[..more]);
@@ -42,7 +43,8 @@ impl Partial {
     pub fn fill(&mut self, input: &[u8]) -> Option<usize>
         ensures end { result ≡ line_end input.now }
         ensures within { IfSome result (λ n. (1 ≤ n) × (n ≤ length input.now)) }
-        ensures holds { held self.new ≡ take HELD_BYTES (held self.old ++ first_bytes input.now) }
+        ensures holds { held_bytes self.new
+            ≡ take HELD_BYTES (held_bytes self.old ++ first_bytes input.now) }
     {
         let end = line_end(input);
         match end {
@@ -54,7 +56,7 @@ impl Partial {
 
     // The bytes that are held. They tell as much as the whole line does.
     pub fn line(&self) -> &[u8]
-        ensures bytes { result.now ≡ held self.now }
+        ensures bytes { result.now ≡ held_bytes self.now }
         ensures enough { TellsAsMuch }
     {
         &self.bytes[..self.count]

@@ -18,8 +18,8 @@ fn column(rest: u64) -> u8
     }
 }
 
-// The columns before a number's last digit: the digits of the rest at the right end, spaces before them. One column a call, since
-// an invariant has no name for what a loop over `iter_mut().rev()` has written.
+// The columns before a number's last digit: the digits of the rest at the right end, spaces before them. One column a
+// call, since an invariant has no name for what a loop over `iter_mut().rev()` has written.
 fn fill_before(columns: &mut [u8], rest: u64)
     ensures { columns.new ≡ columns_before (length columns.old) rest }
 {
@@ -29,8 +29,8 @@ fn fill_before(columns: &mut [u8], rest: u64)
     }
 }
 
-// A number in all of the columns: its digits at the right end, spaces before them. Written by hand: no clause of std says what
-// `write!` leaves in bytes.
+// A number in all of the columns: its digits at the right end, spaces before them. Written by hand: no clause of std
+// says what `write!` leaves in bytes.
 fn right_justify(columns: &mut [u8], number: u64)
     ensures { columns.new ≡ justified (length columns.old) number }
 {

@@ -1,9 +1,11 @@
 // A request line: a letter, two fields and a line feed.
-ghost use Rattle.std.specs.Prelude.{◌≡◌, ok_or};
-ghost use Rattle.simulator.specs.Request.{command_for, command_in, is_closed, fields_in, column_of, uses_b};
+ghost use Rattle.std.specs.Prelude.{◌≡◌, Some, ok_or};
+ghost use Rattle.simulator.specs.Request.{command_for, command_in, is_closed, fields_in, column_of, item_text, uses_b};
 ghost use Rattle.simulator.specs.declared.request.Item.TheVariants.{Letter};
 
 use crate::field::number_in;
+use std::error::Error;
+use std::fmt;
 
 // What a line asks for.
 #[derive(Clone, Copy)]
@@ -45,6 +47,22 @@ impl Item {
         }
     }
 }
+
+// What is wrong with the item.
+impl fmt::Display for Item {
+    ghost output = { λ item. Some (item_text item) };
+
+    fn fmt<W: fmt::Write>(&self, f: &mut fmt::Formatter<W>) -> fmt::Result {
+        f.write_str(match self {
+            Item::Letter => "the letter in column 1 is none that may come here",
+            Item::A => "field A is no number at the right end of columns 2 to 6",
+            Item::B => "field B is no number at the right end of columns 7 to 20, or must be 0",
+            Item::LineFeed => "the line does not end with a line feed in column 21",
+        })
+    }
+}
+
+impl Error for Item {}
 
 // The command that a letter stands for.
 impl TryFrom<char> for Command {

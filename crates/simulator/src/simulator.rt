@@ -94,8 +94,8 @@ impl<'a> Simulator<'a> {
         }
     }
 
-    // Takes a request line: writes the first 34 bytes of the print line, and tells what the line was answered with. With a print
-    // line of fewer bytes it is denied, and nothing changes.
+    // Takes a request line: writes the first 34 bytes of the print line, and tells what the line was answered with.
+    // With a print line of fewer bytes it is denied, and nothing changes.
     pub fn take(&mut self, line: &[u8], print: &mut [u8]) -> Result<Answer, Denial>
         ensures takes { record { answer = result; run = run_of self.new; print = print.new }
             ≡ taken_by (run_of self.old) line.now print.old }
@@ -142,8 +142,8 @@ impl<'a> Simulator<'a> {
         answer
     }
 
-    // What a line does, by the stage and the command that its letter stands for. They are matched in place, since a stage passed
-    // by value takes 14% longer a line.
+    // What a line does, by the stage and the command that its letter stands for. They are matched in place, since a
+    // stage passed by value takes 14% longer a line.
     fn step(&mut self, line: &[u8]) -> Result<Answer, Denial>
         ensures count { self.new.taken ≡ self.old.taken }
         ensures extends { Lengthens

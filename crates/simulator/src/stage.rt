@@ -1,10 +1,10 @@
 // Where a run stands, by the lines that were taken.
 ghost use Rattle.std.specs.Prelude.{◌≡◌, None, ok_or};
 ghost use Rattle.simulator.specs.Calls.{Extends};
-ghost use Rattle.simulator.specs.Takes.{finished};
+ghost use Rattle.simulator.specs.Takes.{view_after};
 ghost use Rattle.simulator.specs.Devices.{make_for, room};
 ghost use Rattle.simulator.specs.Histories.{RunServed, RunReached, Lengthens};
-ghost use Rattle.simulator.specs.Stages.{view, started, leased, closed};
+ghost use Rattle.simulator.specs.Stages.{view, view_with_kind, view_with_lease, view_at_end};
 ghost use Rattle.simulator.specs.declared.answer.Denial.TheVariants.{NoDevice};
 ghost use Rattle.simulator.specs.declared.stage.Left.TheVariants.{Nothing};
 ghost use Rattle.simulator.specs.declared.stage.Stage.TheVariants.{Ended};
@@ -33,8 +33,8 @@ pub enum Left<'a> {
     },
 }
 
-// The stages of a run. The spare is the memory past the disk's; it lies beside a disk or beside a server that has it, so the two
-// are no struct of their own.
+// The stages of a run. The spare is the memory past the disk's; it lies beside a disk or beside a server that has it,
+// so the two are no struct of their own.
 #[derive(Drop)]
 pub enum Stage<'a> {
     // The line for the device is to come.
@@ -62,7 +62,7 @@ pub enum Stage<'a> {
 impl Stage<'_> {
     // The lease is known, and the box is to come.
     pub(crate) fn set_lease(&mut self, lease: Lease)
-        ensures leases { view self.new ≡ leased lease (view self.old) }
+        ensures leases { view self.new ≡ view_with_lease lease (view self.old) }
         ensures extends { Lengthens (RunReached self.old) None (RunReached self.new) }
         ensures serves { Extends (RunServed self.old) None (RunServed self.new) }
     {
@@ -74,7 +74,7 @@ impl Stage<'_> {
 
     // The server is put together.
     pub(crate) fn run(&mut self, kind: AnyKind)
-        ensures starts { view self.new ≡ started kind (view self.old) }
+        ensures starts { view self.new ≡ view_with_kind kind (view self.old) }
         ensures extends { Lengthens (RunReached self.old) None (RunReached self.new) }
         ensures serves { Extends (RunServed self.old) None (RunServed self.new) }
     {
@@ -89,7 +89,7 @@ impl Stage<'_> {
 
     // Ends the run after a denial that does so.
     pub(crate) fn finish(&mut self, answer: Result<Answer, Denial>)
-        ensures ends { view self.new ≡ finished answer (view self.old) }
+        ensures ends { view self.new ≡ view_after answer (view self.old) }
         ensures extends { Lengthens (RunReached self.old) None (RunReached self.new) }
         ensures serves { Extends (RunServed self.old) None (RunServed self.new) }
     {
@@ -100,7 +100,7 @@ impl Stage<'_> {
 
     // The run ends.
     fn end(&mut self)
-        ensures ends { view self.new ≡ closed (view self.old) }
+        ensures ends { view self.new ≡ view_at_end (view self.old) }
         ensures extends { Lengthens (RunReached self.old) None (RunReached self.new) }
         ensures serves { Extends (RunServed self.old) None (RunServed self.new) }
     {

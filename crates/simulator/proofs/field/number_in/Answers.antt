@@ -32,5 +32,10 @@ fold-requires-clause-callable c =
 pub returns : goal.returns
 unfolding after_bytes
 returns c =
-    let all : c.fold.result ≡ after_bytes Spaces c.iter.result.rest.now = fold_over fronts (λ y. y.now) _ (λ ys told. told ≡ after_bytes Spaces ys) _ (λ ys a x b f j k. let is : b ≡ after_byte a x.now = search rules in (is ∙ ap (λ (t : Told). after_byte t x.now) j ∙ sym (after_push Spaces ys x.now), search rules)) _ _ Spaces c.fold.result (slice_gives c.iter.result) refl c.fold.ensures.ran in
+    let all : c.fold.result ≡ after_bytes Spaces c.iter.result.rest.now =
+    fold_over fronts (λ y. y.now) _ (λ ys told. told ≡ after_bytes Spaces ys) _
+    (λ ys a x b f j k.
+    let is : b ≡ after_byte a x.now = search rules in
+    (is ∙ ap (λ (t : Told). after_byte t x.now) j ∙ sym (after_push Spaces ys x.now), search rules))
+    _ _ Spaces c.fold.result (slice_gives c.iter.result) refl c.fold.ensures.ran in
     c.number.ensures ∙ ap told_number (all ∙ ap (after_bytes Spaces) c.iter.ensures.rest) ∙ sym (told_is Spaces c.args.bytes.now)

@@ -12,4 +12,5 @@ returns c =
     let bytes = c.args.self.now.bytes in
     let rest = post_of at (at + more - at) bytes in
     let long : at ≤ length bytes = omega arith in
-    ap (λ (zs : List ℕ). take (at + more) (take at bytes ++ (zs ++ rest))) c.copy_from_slice.ensures.after ∙ room_for (take at bytes) c.args.input.now rest at more (length-take-le at bytes long) (omega arith) c.min-more.ensures
+    ap (λ (zs : List ℕ). take (at + more) (take at bytes ++ (zs ++ rest))) c.copy_from_slice.ensures.after
+    ∙ room_for (take at bytes) c.args.input.now rest at more (length-take-le at bytes long) (omega arith) c.min-more.ensures
