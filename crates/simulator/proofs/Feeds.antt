@@ -339,7 +339,7 @@ module _ {memory bytes printed : List ℕ} (piece print print' : List ℕ) {f : 
         subst (λ (file : List ℕ). HasPrinted memory file (printed ++ all.0) f'.simulator) (append-nil (bytes ++ piece)) (all.2 []),
       )
 
-  pub prints_ended : (between : Feed) (so_far : List ℕ) → PrintsPiece f piece print between so_far → PrintsToEnd between so_far f' print' → Printed
+  prints_ended : (between : Feed) (so_far : List ℕ) → PrintsPiece f piece print between so_far → PrintsToEnd between so_far f' print' → Printed
   prints_ended between so_far goes ends =
       let on = goes memory bytes printed read in
       let last = ends memory (bytes ++ piece) (printed ++ on.0) on.2 in (
@@ -347,3 +347,9 @@ module _ {memory bytes printed : List ℕ} (piece print print' : List ℕ) {f : 
         last.1 ∙ ap (λ (xs : List ℕ). xs ++ last.0) on.1 ∙ append_assoc print on.0 last.0,
         subst (λ (xs : List ℕ). HasPrinted memory (bytes ++ piece) xs f'.simulator) (append_assoc printed on.0 last.0) last.2,
       )
+
+  pub prints_last :
+      (between last : Feed) (so_far : List ℕ) → PrintsPiece f piece print between so_far → PrintsToEnd last so_far f' print' →
+      last ≡ between → Printed
+  prints_last between last so_far goes ends same =
+      prints_ended between so_far goes (subst (λ (x : Feed). PrintsToEnd x so_far f' print') same ends)
