@@ -11,7 +11,8 @@ use Rattle.std.specs.declared.ops.ControlFlow.TheVariants.{Continue, Break}
 use Rattle.history.specs.declared.calls.Call.{Call}
 use Rattle.history.specs.declared.calls.Turn.{Turn}
 use Rattle.simulator.specs.Calls.{call_by, turn_in, added, Extends}
-use Rattle.simulator.specs.Feeds.{HoldsStart, IsBegun, TakesRows, held_row, AnswersHeld, ReadsOn, StopsRun, Ends, HasTaken, HasPrinted, HasRead, Gains, PrintsPiece, PrintsToStop, PrintsToEnd}
+use Rattle.simulator.specs.Feeds.{HoldsStart, IsBegun, TakesRows, held_row, AnswersHeld, ReadsOn, StopsRun, Ends}
+use Rattle.simulator.specs.Feeds.{HasTaken, HasPrinted, HasRead, Gains, PrintsPiece, PrintsToStop, PrintsToEnd}
 use Rattle.simulator.specs.Files.{Flow, flow_after, unless_broken, rows_after, rows_of, last_run, first_run}
 use Rattle.simulator.specs.Histories.{RunServed}
 use Rattle.simulator.specs.Lines.{line_end, up_to, first_bytes, ended_if, lines_from, lines_of, held_bytes}
@@ -232,25 +233,27 @@ takes_more {s} {t} {u} {print} {print'} {print''} {rows} {more} first second =
     }
 
 -- a run over a memory takes lines, and then more
-module _ {memory print print' printed : List ℕ} {rows more : List Row} {s s' : Simulator}
-    (so_far : HasTaken memory rows printed s) (takes : TakesRows s print more s' print') where
-  pub taken_on : HasTaken memory (rows ++ more) (printed ++ flat_map print_of more) s'
-  taken_on =
-      record {
-        run =
-            takes.run
-            ∙ ap (λ (r : Run). last_run r more) so_far.run
-            ∙ sym (after-append (first_run memory) rows more);
-        prints =
-            ap (λ (xs : List ℕ). xs ++ flat_map print_of more) so_far.prints
-            ∙ sym (flat_map-append print_of rows more);
-        served =
-            subst (λ (xs : List Turn). RunServed s'.stage xs) (sym (filter_map-append turn_of rows more))
-            (takes.serves (filter_map turn_of rows) so_far.served);
-      }
+pub taken_on :
+    {memory print print' printed : List ℕ} {rows more : List Row} {s s' : Simulator} → HasTaken memory rows printed s →
+    TakesRows s print more s' print' → HasTaken memory (rows ++ more) (printed ++ flat_map print_of more) s'
+taken_on {memory} {print} {print'} {printed} {rows} {more} {s} {s'} so_far takes =
+    record {
+      run =
+          takes.run
+          ∙ ap (λ (r : Run). last_run r more) so_far.run
+          ∙ sym (after-append (first_run memory) rows more);
+      prints =
+          ap (λ (xs : List ℕ). xs ++ flat_map print_of more) so_far.prints
+          ∙ sym (flat_map-append print_of rows more);
+      served =
+          subst (λ (xs : List Turn). RunServed s'.stage xs) (sym (filter_map-append turn_of rows more))
+          (takes.serves (filter_map turn_of rows) so_far.served);
+    }
 
-  pub gains : {Fact : List ℕ → Type 0} → Fact (flat_map print_of more) → Gains print print' Fact
-  gains fact = (flat_map print_of more, takes.prints, fact)
+gains :
+    {print print' : List ℕ} {more : List Row} {s s' : Simulator} {Fact : List ℕ → Type 0} → TakesRows s print more s' print' →
+    Fact (flat_map print_of more) → Gains print print' Fact
+gains {print} {print'} {more} {s} {s'} {Fact} takes fact = (flat_map print_of more, takes.prints, fact)
 
 -- what was read of a file
 pub has_read :
@@ -295,7 +298,7 @@ module _ {memory bytes printed : List ℕ} (piece : List ℕ) {f : Feed} (read :
       Gains print print' (λ more. HasRead memory (bytes ++ piece) (printed ++ more) f')
   reads_on print print' f' goes_on =
       let on = goes_on read.unended read.holds in
-      gains read.takes on.takes
+      gains on.takes
       (has_read memory (bytes ++ piece) _ on.unended (read.rows ++ on.rows) f' (taken_on read.takes on.takes) on.holds
       (λ rest.
       rows_on rest
@@ -307,7 +310,7 @@ module _ {memory bytes printed : List ℕ} (piece : List ℕ) {f : Feed} (read :
       Gains print print' (λ more. (rest : List ℕ) → HasPrinted memory ((bytes ++ piece) ++ rest) (printed ++ more) f'.simulator)
   stops_in print print' f' stops =
       let on = stops read.unended read.holds in
-      gains read.takes on.takes
+      gains on.takes
       (λ rest.
       subst (λ (rows : List Row). HasTaken memory rows (printed ++ flat_map print_of on.rows) f'.simulator)
       (sym (rows_on rest ∙ ap (λ (xs : List Row). read.rows ++ xs) (on.all rest)))
@@ -318,14 +321,14 @@ pub ends_there :
     Gains print print' (λ more. HasPrinted memory bytes (printed ++ more) f'.simulator)
 ends_there {memory} {bytes} {printed} print print' {f} f' read ends =
     let takes = ends read.unended read.holds in
-    gains read.takes takes
+    gains takes
     (subst (λ (rows : List Row). HasTaken memory rows (printed ++ flat_map print_of (rows_of (lines_from [] read.unended) (run_of f.simulator))) f'.simulator)
     (sym (read.splits []) ∙ ap (λ (xs : List ℕ). rows_of (lines_of xs) (first_run memory)) (append-nil bytes))
     (taken_on read.takes takes))
 
 -- a piece with which the file ends
 module _ {memory bytes printed : List ℕ} (piece print print' : List ℕ) {f : Feed} (f' : Feed) (read : HasRead memory bytes printed f) where
-  abbrev pub Printed : Type 0
+  abbrev Printed : Type 0
   Printed = Gains print print' (λ more. HasPrinted memory (bytes ++ piece) (printed ++ more) f'.simulator)
 
   pub prints_stopped : PrintsToStop f piece print f' print' → Printed
@@ -336,7 +339,7 @@ module _ {memory bytes printed : List ℕ} (piece print print' : List ℕ) {f : 
         subst (λ (file : List ℕ). HasPrinted memory file (printed ++ all.0) f'.simulator) (append-nil (bytes ++ piece)) (all.2 []),
       )
 
-  pub prints_ended : (between : Feed) (so_far : List ℕ) → PrintsPiece f piece print between so_far → PrintsToEnd between so_far f' print' → Printed
+  prints_ended : (between : Feed) (so_far : List ℕ) → PrintsPiece f piece print between so_far → PrintsToEnd between so_far f' print' → Printed
   prints_ended between so_far goes ends =
       let on = goes memory bytes printed read in
       let last = ends memory (bytes ++ piece) (printed ++ on.0) on.2 in (
@@ -344,3 +347,9 @@ module _ {memory bytes printed : List ℕ} (piece print print' : List ℕ) {f : 
         last.1 ∙ ap (λ (xs : List ℕ). xs ++ last.0) on.1 ∙ append_assoc print on.0 last.0,
         subst (λ (xs : List ℕ). HasPrinted memory (bytes ++ piece) xs f'.simulator) (append_assoc printed on.0 last.0) last.2,
       )
+
+  pub prints_last :
+      (between last : Feed) (so_far : List ℕ) → PrintsPiece f piece print between so_far → PrintsToEnd last so_far f' print' →
+      last ≡ between → Printed
+  prints_last between last so_far goes ends same =
+      prints_ended between so_far goes (subst (λ (x : Feed). PrintsToEnd x so_far f' print') same ends)

@@ -27,6 +27,12 @@ pub enum Device<'a> {
 // How many writes and flushes succeed on a disk that is new.
 const FIRST_SUPPLY: u64 = 1_000_000;
 
+// What this number is.
+pub fn supply_limit()
+    ensures { FIRST_SUPPLY ≡ 1000000 }
+{
+}
+
 // Each method matches for itself: there is no heap for a box of either disk.
 impl Disk for Device<'_> {
     ghost meaning = { meaning_of };

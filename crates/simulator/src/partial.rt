@@ -7,6 +7,12 @@ use crate::line::line_end;
 // A request line has 21 bytes. One byte more shows that a line is too long, and what follows tells nothing.
 const HELD_BYTES: usize = 22;
 
+// What this number is.
+pub fn held_limit()
+    ensures { HELD_BYTES ≡ 22 }
+{
+}
+
 // The first bytes of a line that has not ended. An array and a count, since this type is `Copy` and an `ArrayVec` is
 // not.
 #[derive(Clone, Copy)]
