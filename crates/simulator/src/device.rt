@@ -30,8 +30,7 @@ const FIRST_SUPPLY: u64 = 1_000_000;
 // What this number is.
 pub fn supply_limit()
     ensures { FIRST_SUPPLY ≡ 1000000 }
-{
-}
+{}
 
 // Each method matches for itself: there is no heap for a box of either disk.
 impl Disk for Device<'_> {

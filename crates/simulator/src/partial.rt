@@ -1,5 +1,5 @@
 // A line that is being read: what has to be held of it.
-ghost use Rattle.std.specs.Prelude.{◌≤◌};
+ghost use Rattle.std.specs.Prelude.{◌≡◌, ◌≤◌};
 ghost use Rattle.simulator.specs.declared.partial.TheConstants.{HELD_BYTES};
 
 use crate::line::line_end;
@@ -10,8 +10,7 @@ const HELD_BYTES: usize = 22;
 // What this number is.
 pub fn held_limit()
     ensures { HELD_BYTES ≡ 22 }
-{
-}
+{}
 
 // The first bytes of a line that has not ended. An array and a count, since this type is `Copy` and an `ArrayVec` is
 // not.

@@ -10,8 +10,7 @@ pub const PRINT_BYTES: usize = 34;
 // What this number is.
 pub fn print_limit()
     ensures { PRINT_BYTES ≡ 34 }
-{
-}
+{}
 
 // The last digit of what is left of a number; a space where nothing is left.
 fn column(rest: u64) -> u8

@@ -34,8 +34,7 @@ const LAST_LINE: u64 = 999_999;
 // What this number is.
 pub fn line_limit()
     ensures { LAST_LINE ≡ 999999 }
-{
-}
+{}
 
 // The series that a server is asked for: 255 for one that is above it.
 fn asked_series(series: u64) -> u8
