@@ -62,3 +62,11 @@ pub fn crc32(bytes: &[u8]) -> u32
 pub fn check_values()
     ensures { CheckValues }
 {}
+
+// The published check value: the checksum of the text 123456789.
+pub fn check_value() -> u32
+    ensures value { result ≡ 0xCBF43926 }
+    ensures of_the_definition { CheckValues }
+{
+    crc32(b"123456789")
+}

@@ -5,7 +5,7 @@ mod crc;
 mod numbers;
 mod sector;
 
-pub use crc::{check_values, crc32};
+pub use crc::{check_value, check_values, crc32};
 pub use numbers::{Identifier, Rank, Reading, Sequence};
 pub use sector::{
     Content, Format, LAST_SEQUENCE, Record, SECTOR_BYTES, classify, cleared, encode, is_sound,
