@@ -10,7 +10,7 @@ pub record Unwritten (m : Meaning) : Type 0 where
   pub kept : m.kept ≡ m.reading
   pub blank : (k : ℕ) → k < length m.reading → sound (at m.reading k) ≡ false
 
--- the same of a meaning that has not to be a disk's: it has 10 to 2,048 sectors
+-- the same, and it has 10 to 2,048 sectors
 pub record WithoutRecords (m : Meaning) : Type 0 where
   pub least : LEAST_SECTORS ≤ length m.reading
   pub most : length m.reading ≤ MOST_SECTORS

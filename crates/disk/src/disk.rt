@@ -46,7 +46,9 @@ pub trait Disk {
 
     // Sectors have 32 bytes, and as many are kept as are read.
     ghost shaped: { (disk : Self) → Shaped (meaning disk) };
+}
 
-    // There are 10 to 2,048 of them.
-    ghost sized: { (disk : Self) → IsSize (count (meaning disk)) };
+// A disk of a size that the rules name: 10 to 2,048 sectors.
+pub trait SizedDisk: Disk {
+    ghost sized: { (disk : Self) → IsSize (count (Self.meaning disk)) };
 }

@@ -12,7 +12,7 @@ mod size;
 mod torn;
 
 pub use blank::blank_disk;
-pub use disk::Disk;
+pub use disk::{Disk, SizedDisk};
 pub use faithful::{FaithfulDisk, WriteThrough};
 pub use fault::{Cause, DiskFault, Operation};
 pub use hold::HoldBack;

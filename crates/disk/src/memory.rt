@@ -6,7 +6,7 @@ ghost use Rattle.disk.specs.Shape.{all_shaped, all_sized};
 ghost use Rattle.disk.specs.Memory.{right_size, sectors as cut_up, stored};
 ghost use Rattle.disk.specs.declared.fault.Operation.TheVariants.{Write, Flush};
 
-use crate::disk::Disk;
+use crate::disk::{Disk, SizedDisk};
 use crate::fault::{DiskFault, Operation, admit};
 use crate::hold::HoldBack;
 use crate::sectors::Sectors;
@@ -52,8 +52,6 @@ impl<H: HoldBack> Disk for MemoryDisk<'_, H> {
       bytes = all_shaped disk.sectors.memory.now;
       keeps = H.lawful.before_count disk.held (cut_up disk.sectors.memory.now);
     } };
-
-    ghost sized = { λ disk. all_sized disk.sectors.memory.now disk.sectors.sized };
 
     fn sectors(&self) -> usize {
         self.sectors.count()
@@ -114,4 +112,8 @@ impl<H: HoldBack> Disk for MemoryDisk<'_, H> {
         self.held = H::nothing();
         self.supply = supply;
     }
+}
+
+impl<H: HoldBack> SizedDisk for MemoryDisk<'_, H> {
+    ghost sized = { λ disk. all_sized disk.sectors.memory.now disk.sectors.sized };
 }

@@ -4,7 +4,7 @@ ghost use Rattle.history.specs.History.{Event};
 ghost use Rattle.history.specs.Promise.{Reached, EveryHistoryObeys};
 ghost use Rattle.history.specs.Made.{Takes, Made, Served, Ran};
 
-use disk::Disk;
+use disk::{Disk, SizedDisk};
 use kind::Kind;
 use record::{Identifier, Reading, Sequence};
 use server::{Server, ServerFault};
@@ -65,7 +65,7 @@ pub fn serve<D: Disk, K: Kind>(server: &mut Server<D, K>, turns: &mut [Turn])
 }
 
 // Puts a server together on a disk, makes the calls of the turns in their order, and gives the server back.
-pub fn run<D: Disk, K: Kind>(disk: D, kind: K, turns: &mut [Turn]) -> Server<D, K>
+pub fn run<D: SizedDisk, K: Kind>(disk: D, kind: K, turns: &mut [Turn]) -> Server<D, K>
     ensures kind { result.kind ≡ kind }
     ensures promise { let k = K.numbering kind in
         Ran D.moves D.meaning k disk turns.old turns.new result.state result.disk }

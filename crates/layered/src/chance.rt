@@ -2,7 +2,7 @@
 ghost use Rattle.std.specs.Prelude.{◌≡◌};
 ghost use Rattle.layered.specs.Layers.{chance_moves};
 
-use disk::{Disk, DiskFault};
+use disk::{Disk, DiskFault, SizedDisk};
 use record::SECTOR_BYTES;
 
 // A source of numbers, of which nothing is known.
@@ -49,8 +49,6 @@ impl<D: Disk, C: Chance> Disk for ByChance<D, C> {
 
     ghost shaped = { λ torn. D.shaped torn.disk };
 
-    ghost sized = { λ torn. D.sized torn.disk };
-
     fn sectors(&self) -> usize {
         self.disk.sectors()
     }
@@ -71,4 +69,8 @@ impl<D: Disk, C: Chance> Disk for ByChance<D, C> {
     fn cut(&mut self, _tear: u64, supply: u64) {
         self.disk.cut(self.chance.draw(), supply);
     }
+}
+
+impl<D: SizedDisk, C: Chance> SizedDisk for ByChance<D, C> {
+    ghost sized = { λ torn. D.sized torn.disk };
 }

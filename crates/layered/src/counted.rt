@@ -3,7 +3,7 @@ ghost use Rattle.std.specs.Prelude.{◌≡◌};
 ghost use Rattle.layered.specs.Asked.{TellsEach};
 ghost use Rattle.layered.specs.Layers.{none_asked, counted_moves};
 
-use disk::{Disk, DiskFault};
+use disk::{Disk, DiskFault, SizedDisk};
 use record::SECTOR_BYTES;
 
 // How often each call was made that may change a disk, denied ones with it. Each number stays at
@@ -66,8 +66,6 @@ impl<D: Disk> Disk for Counted<D> {
 
     ghost shaped = { λ counted. D.shaped counted.disk };
 
-    ghost sized = { λ counted. D.sized counted.disk };
-
     fn sectors(&self) -> usize {
         self.disk.sectors()
     }
@@ -90,4 +88,8 @@ impl<D: Disk> Disk for Counted<D> {
         self.counts.cuts = self.counts.cuts.saturating_add(1);
         self.disk.cut(tear, supply);
     }
+}
+
+impl<D: SizedDisk> SizedDisk for Counted<D> {
+    ghost sized = { λ counted. D.sized counted.disk };
 }

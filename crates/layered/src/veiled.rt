@@ -2,7 +2,7 @@
 ghost use Rattle.std.specs.Prelude.{◌≡◌};
 ghost use Rattle.disk.specs.Moves.{anything};
 
-use disk::{Disk, DiskFault};
+use disk::{Disk, DiskFault, SizedDisk};
 use record::SECTOR_BYTES;
 
 // Any disk, with its own relations hidden: the meaning is all that there is to it.
@@ -34,8 +34,6 @@ impl<D: Disk> Disk for Veiled<D> {
 
     ghost shaped = { λ veiled. D.shaped veiled.disk };
 
-    ghost sized = { λ veiled. D.sized veiled.disk };
-
     fn sectors(&self) -> usize {
         self.disk.sectors()
     }
@@ -55,4 +53,8 @@ impl<D: Disk> Disk for Veiled<D> {
     fn cut(&mut self, tear: u64, supply: u64) {
         self.disk.cut(tear, supply);
     }
+}
+
+impl<D: SizedDisk> SizedDisk for Veiled<D> {
+    ghost sized = { λ veiled. D.sized veiled.disk };
 }

@@ -7,7 +7,7 @@ ghost use Rattle.disk.specs.Memory.{right_size};
 ghost use Rattle.disk.specs.declared.fault.Operation.TheVariants.{Write, Flush};
 ghost use Rattle.simulator.specs.Devices.{meaning_of, device_moves, shaped, sized, make_of, room};
 
-use disk::{Disk, DiskFault, FaithfulDisk, HoldBack, MemoryDisk, TornDisk, blank_disk};
+use disk::{Disk, DiskFault, FaithfulDisk, HoldBack, MemoryDisk, SizedDisk, TornDisk, blank_disk};
 use record::SECTOR_BYTES;
 
 // Which disk it is. The trials have such an enum of their own: neither crate has need of the other.
@@ -39,8 +39,6 @@ impl Disk for Device<'_> {
     ghost moves = { device_moves };
 
     ghost shaped = { shaped };
-
-    ghost sized = { sized };
 
     fn sectors(&self) -> usize {
         match self {
@@ -76,6 +74,10 @@ impl Disk for Device<'_> {
             Device::Torn(disk) => disk.cut(tear, supply),
         }
     }
+}
+
+impl SizedDisk for Device<'_> {
+    ghost sized = { sized };
 }
 
 // A disk without records over all of a memory.
