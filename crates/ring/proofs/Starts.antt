@@ -1,13 +1,16 @@
 -- Where a ring starts: on a disk without records, and on sectors that recover.
-use Rattle.std.proofs.Common.{◌≡◌, ℕ, zero, suc, ◌^◌, ◌<◌, true, false, leb, List, length, Some, None, Ok, Option, sym, refl, ap, ◌∙◌, inl, arith}
+use Rattle.std.proofs.Common.{◌≡◌, ℕ, zero, suc, ◌^◌, ◌<◌, true, false, leb, List, length, get_or, Some, None, Ok, Option, sym, refl, ap, ◌∙◌, inl, arith}
 use Rattle.std.proofs.lemmas.Bool.{le-leb}
+use Rattle.std.proofs.lemmas.List.FromFn.{get_or-map-range_with_len}
 use Rattle.record.specs.Sector.{content}
+use Rattle.record.specs.declared.numbers.Rank.{Rank}
 use Rattle.record.specs.declared.sector.Format.{Format}
 use Rattle.record.specs.declared.sector.Record.{Record}
 use Rattle.disk.specs.Meaning.{Meaning, at}
 use Rattle.disk.specs.Blank.{WithoutRecords}
-use Rattle.ring.specs.Left.{Recovers, end_of}
-use Rattle.ring.specs.Ring.{record_in, slot, top, none, gap, known, known_end, is_foreign, Sized, Agrees, foreign_below, holds_live, recover}
+use Rattle.ring.specs.Left.{Recovers, end_of, EndsAre}
+use Rattle.ring.specs.Ring.{record_in, slot, top, none, gap, known, known_end, known_ends, is_foreign, Sized, Agrees, foreign_below, holds_live, recover}
+use Rattle.ring.specs.declared.known.Known.{Known}
 use Rattle.ring.specs.declared.known.Live.{Live}
 use Rattle.ring.specs.declared.ring.Ring.{Ring}
 use Rattle.ring.proofs.Cuts.{blank_from}
@@ -75,3 +78,12 @@ agrees_recovers r m agrees = record { sized = agrees.sized; free = agrees.free; 
 -- the end that a ring knows is the one that its sectors read
 pub known_end_is : (f : Format) (reading : List (List ℕ)) (s : ℕ) → s < 8 → (known_end (known f reading) s).0 ≡ end_of f reading s
 known_end_is f reading s l = grind arith
+
+-- and so are all the ends that it knows
+pub known_ends_are : (r : Ring) (m : Meaning) → Agrees r m → EndsAre r.format m.reading (known_ends r.known)
+known_ends_are r m agrees s l = ap (λ (k : Known). (get_or (known_ends k) s none.end).0) agrees.knows ∙ read
+  where
+    read : (get_or (known_ends (known r.format m.reading)) s none.end).0 ≡ end_of r.format m.reading s
+    read =
+        ap (λ (x : Rank). x.0) (get_or-map-range_with_len (known_end (known r.format m.reading)) 0 8 s s none.end l (omega arith))
+        ∙ known_end_is r.format m.reading s l

@@ -1,5 +1,6 @@
 -- What a cut leaves of a ring, in terms of what its sectors read.
-use Rattle.std.specs.Prelude.{◌≡◌, ℕ, ◌+◌, ◌*◌, ◌<◌, ◌≤◌, min, ◌≢◌, ◌⊎◌, List, [], ◌∷◌, length, Some, None, Ok, Err}
+use Rattle.std.specs.Prelude.{◌≡◌, ℕ, ◌+◌, ◌*◌, ◌<◌, ◌≤◌, min, ◌≢◌, ◌⊎◌, List, [], ◌∷◌, length, Some, None, Ok, Err, slice_index_or}
+use Rattle.record.specs.declared.numbers.Rank.{Rank}
 use Rattle.record.specs.declared.sector.TheConstants.{LAST_SEQUENCE}
 use Rattle.record.specs.declared.sector.Format.{Format}
 use Rattle.record.specs.declared.sector.Record.{Record}
@@ -18,6 +19,11 @@ pub record Recovers (f : Format) (reading : List (List ℕ)) : Type 0 where
 -- the end of a series, 0 without a record
 abbrev pub end_of : Format → List (List ℕ) → ℕ → ℕ
 end_of f reading s = (live f reading s).end.0
+
+-- the rank at the place of each series is its end
+abbrev pub EndsAre : Format → List (List ℕ) → List Rank → Type 0
+EndsAre f reading ranks =
+    (s : ℕ) → s < 8 → (slice_index_or ranks s (record { 0 = 0 })).0 ≡ end_of f reading s
 
 -- what may be left of sectors in which series s was reserving up to an end: they recover, and every end is as before, or
 -- of series s the new one; the top record does not fall, and rises by at most 8

@@ -45,6 +45,10 @@ block_in blocks s = slice_index_or blocks.0 s (empty_block (record { 0 = 0 }))
 abbrev pub with_block : Blocks → ℕ → Block → Blocks
 with_block blocks s block = record { 0 = slice_set blocks.0 s block }
 
+-- the next ranks of all blocks
+abbrev pub block_nexts : Blocks → List Rank
+block_nexts blocks = map (λ (block : Block). block.next) blocks.0
+
 -- the ends of all blocks
 abbrev pub block_ends : Blocks → List Rank
 block_ends blocks = map (λ (block : Block). block.end) blocks.0

@@ -1,7 +1,7 @@
 // The ring over any disk.
 ghost use Rattle.std.specs.Prelude.{◌≡◌, ◌+◌, ◌^◌, ◌<◌, ◌≤◌, IfOk, IfErr, Some, None, Ok, Err, MatchResult, slice_set};
-ghost use Rattle.ring.specs.Token.{done, empty_blocks};
-ghost use Rattle.ring.specs.Left.{end_of, AtMostSoMany, ReservationLaws, TopsCounted};
+ghost use Rattle.ring.specs.Token.{done, empty_blocks, block_nexts, block_ends};
+ghost use Rattle.ring.specs.Left.{end_of, EndsAre, AtMostSoMany, ReservationLaws, TopsCounted};
 ghost use Rattle.ring.specs.Faults.{with_work};
 ghost use Rattle.disk.specs.Meaning.{Meaning, count, answer_of};
 ghost use Rattle.disk.specs.declared.fault.Operation.TheVariants.{Write};
@@ -101,14 +101,19 @@ impl Ring {
 
     // The ends of all eight series, in their order.
     pub fn ends(&self) -> [Rank; 8]
-        ensures { result ≡ known_ends self.now.known }
+        ensures value { result ≡ known_ends self.now.known }
+        ensures reads { (m : Meaning) → Agrees self.now m →
+            EndsAre self.now.format m.reading result }
     {
         self.known.lives.map(|live| live.end)
     }
 
-    // The blocks of all eight series as a server wakes with them: they are empty.
+    // The blocks of all eight series as a server wakes with them: they are empty, each at the end of its series.
     pub fn blocks(&self) -> Blocks
-        ensures { result ≡ empty_blocks (known_ends self.now.known) }
+        ensures value { result ≡ empty_blocks (known_ends self.now.known) }
+        ensures reads { (m : Meaning) → Agrees self.now m →
+            EndsAre self.now.format m.reading (block_nexts result)
+            × EndsAre self.now.format m.reading (block_ends result) }
     {
         Blocks::empty(self.known)
     }
