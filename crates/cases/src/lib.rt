@@ -11,4 +11,6 @@ pub fn worked_cases()
 {}
 
 #[cfg(test)]
+mod lists;
+#[cfg(test)]
 mod tests;

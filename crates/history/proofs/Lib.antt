@@ -2,6 +2,7 @@ pub mod Decides
 pub mod Draws
 pub mod Given
 pub mod Invariant
+pub mod Lists
 pub mod Obeys
 pub mod Outright
 pub mod Quiet

@@ -3,6 +3,8 @@
 
 mod blank;
 mod calls;
+mod list;
 
 pub use blank::{run_blank, run_serial};
 pub use calls::{Answer, Call, Turn, make, run, serve};
+pub use list::{Outcome, run_list, serve_list};
