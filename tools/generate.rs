@@ -493,7 +493,7 @@ fn last_ranks(folder: &mut Folder) -> io::Result<()> {
     Ok(())
 }
 
-/// Lawful files that end where a read of 4 KiB or 64 KiB does.
+/// Lawful files that end where a read of 4, 24 or 64 KiB does.
 fn whole_reads(folder: &mut Folder) -> io::Result<()> {
     for lines in [4_096, 65_536] {
         let mut script = Script::serial(0, 20, 50);

@@ -5,15 +5,23 @@ ghost use Rattle.std.specs.Prelude.{◌≡◌, ◌≤◌, length, IfOk, OnOk};
 ghost use Rattle.std.specs.Io.KnownBytes.{Appends, ReadConsumes};
 ghost use Rattle.simulate.specs.Pieces.{TakesPiece, TakesInput};
 
-use simulator::Feed;
+use simulator::{Feed, PRINT_BYTES};
 use std::alloc::AllocError;
 use std::io::{self, BufWriter, ErrorKind, Read, Write};
 use std::ops::ControlFlow;
 
-// The bytes of the disk's memory, and of one read.
+// The bytes of the disk's memory.
 const MEMORY_BYTES: usize = 65_536;
 
-const READ_BYTES: usize = 65_536;
+// The bytes of one read. With the prints of such a piece they come to less than 64 KiB.
+const READ_BYTES: usize = 24_576;
+
+// The bytes of a request line.
+const LINE_BYTES: usize = 21;
+
+// Room for the prints of a piece, so that none has to be found while lines are taken: of all its lines only the first, the
+// end of one that was held, and the last, where it ends the run, may have fewer than 21 bytes in it.
+const PIECE_PRINT_BYTES: usize = (READ_BYTES / LINE_BYTES + 2) * PRINT_BYTES;
 
 // A run of the simulator, the prints of one piece, and where they go.
 #[derive(Drop)]
@@ -82,7 +90,7 @@ fn main(rt: HostRuntime) -> anyhow::Result<()> {
     let mut input = rt.stdin();
     let mut session = Session {
         feed: Feed::new(&mut memory),
-        print: Vec::new(rt.alloc()),
+        print: Vec::with_capacity(rt.alloc(), PIECE_PRINT_BYTES)?,
         out: BufWriter::new(rt.alloc(), rt.stdout())?,
     };
     // The same bound: no input has so many pieces.
